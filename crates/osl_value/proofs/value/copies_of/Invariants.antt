@@ -1,0 +1,6 @@
+-- The texts so far are the first ones.
+use Rattle.std.proofs.Common.{◌≡◌, take}
+use Rattle.osl_value.proofs.value.copies_of.Given as goal
+
+abbrev pub invariant-loop-text : goal.invariant-loop-text
+invariant-loop-text l = l.copies.items ≡ take l.text-index l.texts

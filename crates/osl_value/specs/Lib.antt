@@ -1,0 +1,13 @@
+pub mod AnyValue
+pub mod Apply
+pub mod Closures
+pub mod Forms
+pub mod Geometry
+pub mod Laws
+pub mod Numbers
+pub mod OpText
+pub mod Plain
+pub mod PrimitiveText
+pub mod Strings
+pub mod Table
+pub mod Types

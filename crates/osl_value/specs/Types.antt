@@ -1,0 +1,78 @@
+-- Types, and what a value of a type holds.
+use Rattle.std.specs.Prelude.{ℕ, ◌*◌, ◌==◌, Bool, true, false, ◌&&◌, if◌then◌else◌}
+use Rattle.osl_value.specs.declared.types.Base.{Base}
+use Rattle.osl_value.specs.declared.types.Base.TheVariants.{Int, Float, Color, Point, Vector, Normal, Matrix, Str, Closure}
+use Rattle.osl_value.specs.declared.types.Ty.{Ty}
+
+abbrev pub is_triple : Base → Bool
+is_triple Int = false
+is_triple Float = false
+is_triple Color = true
+is_triple Point = true
+is_triple Vector = true
+is_triple Normal = true
+is_triple Matrix = false
+is_triple Str = false
+is_triple Closure = false
+
+abbrev pub same_base : Base → Base → Bool
+same_base Int Int = true
+same_base Float Float = true
+same_base Color Color = true
+same_base Point Point = true
+same_base Vector Vector = true
+same_base Normal Normal = true
+same_base Matrix Matrix = true
+same_base Str Str = true
+same_base Closure Closure = true
+same_base _ _ = false
+
+abbrev pub same_type : Ty → Ty → Bool
+same_type a b = same_base a.base b.base && (a.len == b.len)
+
+-- a base type alone, and no array
+abbrev pub only : Base → Ty
+only base = record { base = base; len = 0 }
+
+abbrev pub is_only : Base → Ty → Bool
+is_only base ty = same_type ty (only base)
+
+-- how many numbers, and how many texts, one element holds
+abbrev pub numbers_in : Base → ℕ
+numbers_in Int = 1
+numbers_in Float = 1
+numbers_in Color = 3
+numbers_in Point = 3
+numbers_in Vector = 3
+numbers_in Normal = 3
+numbers_in Matrix = 16
+numbers_in Str = 0
+numbers_in Closure = 0
+
+abbrev pub texts_in : Base → ℕ
+texts_in Int = 0
+texts_in Float = 0
+texts_in Color = 0
+texts_in Point = 0
+texts_in Vector = 0
+texts_in Normal = 0
+texts_in Matrix = 0
+texts_in Str = 1
+texts_in Closure = 0
+
+-- an array's length, and 1 where the type is no array
+abbrev pub element_count : Ty → ℕ
+element_count ty = if ty.len == 0 then 1 else ty.len
+
+abbrev pub number_count : Ty → ℕ
+number_count ty = element_count ty * numbers_in ty.base
+
+abbrev pub text_count : Ty → ℕ
+text_count ty = element_count ty * texts_in ty.base
+
+-- the most bytes of a string, and the most elements of an array
+abbrev pub longest_text : ℕ
+longest_text = 512
+
+abbrev pub longest_array : ℕ
+longest_array = 1024

@@ -1,0 +1,69 @@
+ghost use Rattle.std.specs.Prelude.{◌≡◌, ◌≢◌, ◌↔◌, IsTrue};
+ghost use Rattle.osl_value.specs.Types.{is_triple, element_count, number_count, text_count};
+
+/// What an element of a type is made of.
+#[derive(Clone, Copy, Debug, PartialEq, Eq)]
+pub enum Base {
+    Int,
+    Float,
+    Color,
+    Point,
+    Vector,
+    Normal,
+    Matrix,
+    Str,
+    Closure,
+}
+
+/// A type of the language that is no structure.
+#[derive(Clone, Copy, Debug, PartialEq, Eq)]
+pub struct Ty {
+    pub base: Base,
+
+    /// The array's length, 0 where the type is no array.
+    pub len: u32,
+}
+
+impl Base {
+    /// Whether it is `color`, `point`, `vector` or `normal`, which are three floats each.
+    pub fn is_triple(self) -> bool
+        ensures { result ≡ is_triple self }
+    {
+        matches!(
+            self,
+            Base::Color | Base::Point | Base::Vector | Base::Normal
+        )
+    }
+}
+
+impl Ty {
+    /// How many elements a value has: the array's length, or 1.
+    pub fn element_count(self) -> usize
+        ensures { result ≡ element_count self }
+    {
+        if self.len == 0 { 1 } else { self.len as usize }
+    }
+
+    /// How many numbers a value holds.
+    pub fn number_count(self) -> usize
+        ensures { result ≡ number_count self }
+    {
+        let in_element = match self.base {
+            Base::Int | Base::Float => 1,
+            Base::Color | Base::Point | Base::Vector | Base::Normal => 3,
+            Base::Matrix => 16,
+            Base::Str | Base::Closure => 0,
+        };
+        self.element_count() * in_element
+    }
+
+    /// How many texts a value holds.
+    pub fn text_count(self) -> usize
+        ensures { result ≡ text_count self }
+    {
+        match self.base {
+            Base::Str => self.element_count(),
+            _ => 0,
+        }
+    }
+}
