@@ -1,0 +1,12 @@
+pub mod Canonicals
+pub mod Forms
+pub mod Numerals
+pub mod Numbers
+pub mod Places
+pub mod RoundTrip
+pub mod Rounding
+pub mod Rules
+pub mod Splits
+pub mod Texts
+pub mod Unique
+pub mod Units
