@@ -1,0 +1,9 @@
+use Rattle.std.specs.Prelude.{◌≡◌, ◌&&◌, drop, bytes_eq}
+use Rattle.std.specs.List.{position_from}
+use Rattle.osl_typed.specs.Tree.{output_named}
+use Rattle.osl_typed.specs.declared.tree.Param.{Param}
+use Rattle.osl_typed.proofs.tree.find_output.Given as goal
+
+abbrev pub invariant-loop-at : goal.invariant-loop-at
+invariant-loop-at l =
+    output_named l.params l.name ≡ position_from (λ (p : Param). p.output && bytes_eq p.name l.name) l.at (drop l.at l.params)
