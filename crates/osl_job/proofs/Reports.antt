@@ -1,0 +1,259 @@
+-- How the steps of a job make its report.
+use Rattle.std.proofs.Common.{◌≡◌, ◌≢◌, ◌≤◌, ◌<◌, ◌+◌, ℕ, List, ◌∷◌, ◌++◌, length, take, drop, get_or, Option, Some, None, Err, refl, ap, sym, ◌∙◌, arith, add-one, Vec, inl, inr, subst, Bool}
+use Rattle.std.specs.Prelude.{codes}
+use Rattle.std.specs.Global.{Global}
+use Rattle.std.specs.Io.KnownBytes.{Appends}
+use Rattle.std.proofs.lemmas.Bool.{lt-ltb, le-ltb}
+use Rattle.std.proofs.lemmas.List.{take-append-drop}
+use Rattle.std.proofs.lemmas.Grind.{flat_map-append}
+use Rattle.std.proofs.Math.Seq.{drop-cons}
+use Rattle.osl_store.specs.Counts.{Counts, NoneFell, Rose, StaysFaultless}
+use Rattle.osl_store.specs.Files.{IsLonger, IsMissing, Files, Told}
+use Rattle.osl_store.specs.Written.{AppendsFront, Puts}
+use Rattle.osl_store.specs.declared.PutError.{PutError}
+use Rattle.osl_store.specs.declared.PutError.TheVariants.{Fault, Memory}
+use Rattle.osl_store.proofs.Written.{front-then, keeps-front, appends-nothing}
+use Rattle.osl_job.specs.declared.report.Refusal.{Refusal}
+use Rattle.osl_job.specs.declared.report.Refusal.TheVariants as why
+use Rattle.osl_job.specs.declared.report.Status.TheVariants as status
+use Rattle.osl_job.specs.declared.report.Report.{Report}
+use Rattle.osl_job.specs.declared.steps.Fetched.{Fetched}
+use Rattle.osl_job.specs.declared.steps.Fetched.TheVariants.{Bytes, Stops}
+use Rattle.osl_job.specs.Status.{code_of, refusal_code}
+use Rattle.osl_job.specs.Verdict.{AcceptedJob, out_text, Verdict, Refused, Accepted, line, status_of}
+use Rattle.osl_typed.specs.declared.tree.Param.{Param}
+use Rattle.osl_typed.specs.declared.tree.Typed.{Typed}
+use Rattle.osl_typed.specs.Tree.{output_named}
+use Rattle.osl_job.specs.declared.text.Stop.{Stop}
+use Rattle.osl_job.specs.declared.text.Stop.TheVariants as stops
+use Rattle.osl_job.specs.Reader.{ReadsWhole}
+use Rattle.osl_job.specs.declared.group.Group.{Group}
+use Rattle.osl_job.specs.declared.words.Job.{Job}
+use Rattle.osl_job.specs.Plan.{after_output, plan_of, Plan, Read, Settled, verdict, with_file, ComesToRead}
+use Rattle.osl_job.specs.Run.{text_of, IsDone, IsRefusal, IsReadFault, IsReport, is_done, is_refused, is_fault, IsText, WritesFront, OverTold, ComesTo, Reports, IsRefused, IsShown, Fetches, FetchHasCause, HasCause, OnlyRead}
+
+-- ---- printing
+
+-- a put that failed leaves a front of the whole text
+pub front_of_err : (T : Type 0) (o m n : Option (List ℕ)) (a b c : List ℕ) (e : PutError) → Appends o m a → Puts {T = T} m n b (Err e) → AppendsFront o n (a ++ (b ++ c))
+front_of_err T o m n a b c Fault p q = front-then o m n a b c p q
+front_of_err T o m n a b c Memory p q = keeps-front o m n a (b ++ c) p q
+
+pub text_of-split : (lines : List (Vec ℕ Global)) (i : ℕ) (x : Vec ℕ Global) → i < length lines → x ≡ get_or lines i x
+    → text_of lines ≡ text_of (take i lines) ++ (x.items ++ text_of (drop (i + 1) lines))
+text_of-split lines i x h is =
+    let cut : drop i lines ≡ x ∷ drop (i + 1) lines = rw add-one (drop-cons lines i x h) ∙ ap (λ y. y ∷ drop (i + 1) lines) (sym is) in
+    ap text_of (sym (take-append-drop i lines) ∙ ap (λ l. take i lines ++ l) cut)
+    ∙ flat_map-append (λ l. l.items) (take i lines) (x ∷ drop (i + 1) lines)
+
+-- nothing is a front of each text
+pub nothing_written : (plan : Plan) (files : Files) (old : Option (List ℕ)) → WritesFront old old (IsText plan files)
+nothing_written plan files old = some_text (verdict plan files) refl
+  where
+    some_text : (v : Verdict) → verdict plan files ≡ v → WritesFront old old (IsText plan files)
+    some_text (Refused w text) e =
+        (line text, (refusal_code w, is_refused w refl (record { refusal = text; refused = e; wrote = refl })), (0, omega arith, appends-nothing old))
+    some_text (Accepted job) e =
+        (out_text job, (0, is_done refl (subst (λ (x : Verdict). IsDone x (out_text job)) (sym e) refl)), (0, omega arith, appends-nothing old))
+
+-- ---- one step
+
+pub settled_refused : (w : Refusal) (text : List ℕ) (files : Files) (r : Report) → IsRefused w text r → ComesTo (Settled (Refused w text)) files r
+settled_refused w text files r is = is_refused w (ap code_of is.status) (record { refusal = text; refused = refl; wrote = is.wrote })
+
+pub settled_accepted : (job : AcceptedJob) (files : Files) (r : Report) → IsShown job r → ComesTo (Settled (Accepted job)) files r
+settled_accepted job files r is = is_done (ap code_of is.status) is.wrote
+
+-- a report of what goes on with a file's bytes is one of the job that reads it
+same_report : (plan rest : Plan) (files : Files) (s : ℕ) (text : List ℕ) → verdict plan files ≡ verdict rest files → ((name : List ℕ) → ComesToRead rest files name → ComesToRead plan files name)
+    → IsReport rest files s text → IsReport plan files s text
+same_report plan rest files s text e reads (is_done a b) = is_done a (subst (λ (v : Verdict). IsDone v text) (sym e) b)
+same_report plan rest files s text e reads (is_refused w a b) = is_refused w a (record { refusal = b.refusal; refused = e ∙ b.refused; wrote = b.wrote })
+same_report plan rest files s text e reads (is_fault a b) = is_fault a (record { name = b.name; reads = reads b.name b.reads; wrote = b.wrote })
+
+with_some : (name bytes : List ℕ) (limit : ℕ) (file : Option (List ℕ)) (next : List ℕ → Verdict) → file ≡ Some bytes → length bytes ≤ limit → with_file name limit file next ≡ next bytes
+with_some name bytes limit file next e h = rw (e, le-ltb limit (length bytes) h) refl
+
+pub read_on : (name bytes : List ℕ) (limit : ℕ) (next : List ℕ → Plan) (files : Files) (r : Report) → files name ≡ Some bytes → length bytes ≤ limit → ComesTo (next bytes) files r → ComesTo (Read name limit next) files r
+read_on name bytes limit next files r e h c =
+    same_report (Read name limit next) (next bytes) files (code_of r.status) (text_of r.lines.items)
+    (with_some name bytes limit (files name) (λ b. verdict (next b) files) e h) (λ other reads. inr (bytes, e, h, reads)) c
+
+pub read_absent : (name : List ℕ) (limit : ℕ) (files : Files) (r : Report) → files name ≡ None → IsRefused why.Absent (name ++ codes ": absent") r → Fetches name limit files (Stops r)
+read_absent name limit files r e is next =
+    is_refused why.Absent (ap code_of is.status) (record { refusal = name ++ codes ": absent"; refused = ap (λ f. with_file name limit f (λ b. verdict (next b) files)) e; wrote = is.wrote })
+
+pub read_large : (name : List ℕ) (limit : ℕ) (files : Files) (r : Report) → IsLonger (Some (files name)) limit → IsRefused why.TooLarge (name ++ codes ": too large") r → Fetches name limit files (Stops r)
+read_large name limit files r long is next =
+    is_refused why.TooLarge (ap code_of is.status) (record { refusal = name ++ codes ": too large"; refused = large; wrote = is.wrote })
+  where
+    large : verdict (Read name limit next) files ≡ Refused why.TooLarge (name ++ codes ": too large")
+    large = rw (long.1, lt-ltb limit (length long.0) long.2) refl
+
+pub read_failed : (name : List ℕ) (limit : ℕ) (files : Files) (r : Report) → r.status ≡ status.ReadFault → text_of r.lines.items ≡ line (name ++ codes ": read fault") → Fetches name limit files (Stops r)
+read_failed name limit files r e w next = is_fault (ap code_of e) (record { name = name; reads = inl refl; wrote = w })
+
+-- ---- steps behind one another
+
+pub rose_later : (a b c : ℕ) → a ≤ b → Rose b c → Rose a c
+rose_later a b c h r = omega (arith, h, r)
+
+pub cause_later : (s : ℕ) (before mid now : Counts) → NoneFell before mid → HasCause s mid now → HasCause s before now
+cause_later s before mid now l c = record {
+  absent = λ e. rose_later before.absents mid.absents now.absents l.absents (c.absent e);
+  read_fault = λ e. rose_later before.faults mid.faults now.faults l.faults (c.read_fault e);
+  large = λ e. rose_later before.larges mid.larges now.larges l.larges (c.large e);
+}
+
+pub none_fell_then : (a b c : Counts) → NoneFell a b → NoneFell b c → NoneFell a c
+none_fell_then a b c p q = record {
+  absents = omega (arith, p.absents, q.absents);
+  larges = omega (arith, p.larges, q.larges);
+  faults = omega (arith, p.faults, q.faults);
+  write_faults = omega (arith, p.write_faults, q.write_faults);
+}
+
+pub faultless_then : (x y z : Bool) (a b c : Counts) → StaysFaultless x y a b → StaysFaultless y z b c → StaysFaultless x z a c
+faultless_then x y z a b c p q = record {
+  still = λ h. q.still (p.still h);
+  faults = λ h. q.faults (p.still h) ∙ p.faults h;
+  write_faults = λ h. q.write_faults (p.still h) ∙ p.write_faults h;
+}
+
+pub only_read_then : (t u v : List ℕ → Told) (a b c : Counts) (x y z : Bool) → OnlyRead t u a b x y → OnlyRead u v b c y z → OnlyRead t v a c x z
+only_read_then t u v a b c x y z p q = record {
+  files = λ name. q.files name ∙ p.files name;
+  later = none_fell_then a b c p.later q.later;
+  faultless = faultless_then x y z a b c p.faultless q.faultless;
+}
+
+-- a fetch that ends the job
+pub stops_reports : (name : List ℕ) (limit : ℕ) (next : List ℕ → Plan) (told : List ℕ → Told) (before now : Counts) (r : Report)
+    → OverTold told (λ files. Fetches name limit files (Stops r)) → FetchHasCause before now (Stops r) → Reports (Read name limit next) told before now r
+stops_reports name limit next told before now r f c = record { report = λ files tells. f files tells next; cause = c.0; usage = c.1 }
+
+-- a fetch after which the job goes on
+pub goes_on : (name : List ℕ) (limit : ℕ) (next : List ℕ → Plan) (rest : Plan) (told later : List ℕ → Told) (before mid now : Counts) (x y : Bool) (b : Vec ℕ Global) (r : Report)
+    → OverTold told (λ files. Fetches name limit files (Bytes b)) → OnlyRead told later before mid x y → next b.items ≡ rest → Reports rest later mid now r
+    → Reports (Read name limit next) told before now r
+goes_on name limit next rest told later before mid now x y b r f only is reports = record {
+  report = λ files tells.
+      let got = f files tells in
+      read_on name b.items limit next files r got.0 got.1
+      (subst (λ (p : Plan). ComesTo p files r) (sym is) (reports.report files (λ n. only.files n ∙ tells n)));
+  cause = cause_later (code_of r.status) before mid now only.later reports.cause;
+  usage = reports.usage;
+}
+
+pub not_built_reports : (text : List ℕ) (told : List ℕ → Told) (before now : Counts) (r : Report) → IsRefused why.NotBuilt text r → Reports (Settled (Refused why.NotBuilt text)) told before now r
+not_built_reports text told before now r is =
+    let code : code_of r.status ≡ 11 = ap code_of is.status in
+    record {
+      report = λ files tells. settled_refused why.NotBuilt text files r is;
+      cause = record { absent = λ e. absurd (omega (arith, code)); read_fault = λ e. absurd (omega (arith, code)); large = λ e. absurd (omega (arith, code)) };
+      usage = λ e. omega (arith, code);
+    }
+
+pub shown_reports : (job : AcceptedJob) (told : List ℕ → Told) (before now : Counts) (r : Report) → IsShown job r → Reports (Settled (Accepted job)) told before now r
+shown_reports job told before now r is =
+    let code : code_of r.status ≡ 0 = ap code_of is.status in
+    record {
+      report = λ files tells. settled_accepted job files r is;
+      cause = record { absent = λ e. absurd (omega (arith, code)); read_fault = λ e. absurd (omega (arith, code)); large = λ e. absurd (omega (arith, code)) };
+      usage = λ e. omega (arith, code);
+    }
+
+-- ---- the top
+
+pub complete_from_report : (plan : Plan) (files : Files) (s : ℕ) (text : List ℕ) → IsReport plan files s text → s ≢ 7 → s ≡ status_of (verdict plan files)
+complete_from_report plan files s text (is_done a b) n = done_status (verdict plan files) b
+  where
+    done_status : (v : Verdict) → IsDone v text → s ≡ status_of v
+    done_status (Refused w t) d = absurd d
+    done_status (Accepted job) d = a
+complete_from_report plan files s text (is_refused w a b) n = a ∙ ap status_of (sym b.refused)
+complete_from_report plan files s text (is_fault a b) n = absurd (n a)
+
+pub done_from_report : (plan : Plan) (files : Files) (s : ℕ) (text : List ℕ) → IsReport plan files s text → s ≡ 0 → IsDone (verdict plan files) text
+done_from_report plan files s text (is_done a b) e = b
+done_from_report plan files s text (is_refused w a b) e = absurd (not_zero w (sym a ∙ e))
+  where
+    not_zero : (w : Refusal) → refusal_code w ≡ 0 → ⊥
+    not_zero why.Usage e = omega arith
+    not_zero why.Absent e = omega arith
+    not_zero why.TooLarge e = omega arith
+    not_zero why.NotBuilt e = omega arith
+done_from_report plan files s text (is_fault a b) e = absurd (omega (arith, a, e))
+
+same_why : (w v : Refusal) → refusal_code w ≡ refusal_code v → w ≡ v
+same_why why.Usage why.Usage e = refl
+same_why why.Usage why.Absent e = absurd (omega arith)
+same_why why.Usage why.TooLarge e = absurd (omega arith)
+same_why why.Usage why.NotBuilt e = absurd (omega arith)
+same_why why.Absent why.Usage e = absurd (omega arith)
+same_why why.Absent why.Absent e = refl
+same_why why.Absent why.TooLarge e = absurd (omega arith)
+same_why why.Absent why.NotBuilt e = absurd (omega arith)
+same_why why.TooLarge why.Usage e = absurd (omega arith)
+same_why why.TooLarge why.Absent e = absurd (omega arith)
+same_why why.TooLarge why.TooLarge e = refl
+same_why why.TooLarge why.NotBuilt e = absurd (omega arith)
+same_why why.NotBuilt why.Usage e = absurd (omega arith)
+same_why why.NotBuilt why.Absent e = absurd (omega arith)
+same_why why.NotBuilt why.TooLarge e = absurd (omega arith)
+same_why why.NotBuilt why.NotBuilt e = refl
+
+code_range : (w : Refusal) → (refusal_code w ≢ 0) × (refusal_code w ≢ 7)
+code_range why.Usage = (λ e. omega arith, λ e. omega arith)
+code_range why.Absent = (λ e. omega arith, λ e. omega arith)
+code_range why.TooLarge = (λ e. omega arith, λ e. omega arith)
+code_range why.NotBuilt = (λ e. omega arith, λ e. omega arith)
+
+pub refusal_from_report : (plan : Plan) (files : Files) (s : ℕ) (text : List ℕ) (w : Refusal) → IsReport plan files s text → s ≡ refusal_code w → IsRefusal w (verdict plan files) text
+refusal_from_report plan files s text w (is_done a b) e = absurd ((code_range w).0 (sym e ∙ a))
+refusal_from_report plan files s text w (is_refused v a b) e = subst (λ (x : Refusal). IsRefusal x (verdict plan files) text) (same_why v w (sym a ∙ e)) b
+refusal_from_report plan files s text w (is_fault a b) e = absurd ((code_range w).1 (sym e ∙ a))
+
+pub fault_from_report : (plan : Plan) (files : Files) (s : ℕ) (text : List ℕ) → IsReport plan files s text → s ≡ 7 → IsReadFault plan files text
+fault_from_report plan files s text (is_done a b) e = absurd (omega (arith, a, e))
+fault_from_report plan files s text (is_refused w a b) e = absurd ((code_range w).1 (sym a ∙ e))
+fault_from_report plan files s text (is_fault a b) e = b
+
+-- ---- the same, at what the code has in its hands
+
+pub stops_at : (n name : List ℕ) (limit : ℕ) (next : List ℕ → Plan) (told : List ℕ → Told) (before now : Counts) (f : Fetched) (r : Report)
+    → n ≡ name → f ≡ Stops r → OverTold told (λ files. Fetches n limit files f) → FetchHasCause before now f → Reports (Read name limit next) told before now r
+stops_at n name limit next told before now f r p q got c =
+    stops_reports name limit next told before now r
+    (λ files tells. subst (λ (x : List ℕ). Fetches x limit files (Stops r)) p (subst (λ (y : Fetched). Fetches n limit files y) q (got files tells)))
+    (subst (λ (y : Fetched). FetchHasCause before now y) q c)
+
+pub goes_on_at : (n name : List ℕ) (limit : ℕ) (next : List ℕ → Plan) (rest : Plan) (told later : List ℕ → Told) (before mid now : Counts) (x y : Bool) (f : Fetched) (b : Vec ℕ Global) (r : Report)
+    → n ≡ name → f ≡ Bytes b → OverTold told (λ files. Fetches n limit files f) → OnlyRead told later before mid x y → next b.items ≡ rest → Reports rest later mid now r
+    → Reports (Read name limit next) told before now r
+goes_on_at n name limit next rest told later before mid now x y f b r p q got only is reports =
+    goes_on name limit next rest told later before mid now x y b r
+    (λ files tells. subst (λ (z : List ℕ). Fetches z limit files (Bytes b)) p (subst (λ (w : Fetched). Fetches n limit files w) q (got files tells)))
+    only is reports
+
+pub refused_at : (w : Refusal) (n name ending : List ℕ) (r : Report) → n ≡ name → IsRefused w (n ++ ending) r → IsRefused w (name ++ ending) r
+refused_at w n name ending r p is = subst (λ (x : List ℕ). IsRefused w (x ++ ending) r) p is
+
+pub missing_file : (told : Option (Option (List ℕ))) (file : Option (List ℕ)) → told ≡ Some file → IsMissing told → file ≡ None
+missing_file told file e m = rw e at m
+
+pub longer_file : (told : Option (Option (List ℕ))) (file : Option (List ℕ)) (limit : ℕ) → told ≡ Some file → IsLonger told limit → IsLonger (Some file) limit
+longer_file told file limit e m = subst (λ (t : Option (Option (List ℕ))). IsLonger t limit) e m
+
+pub found_is : (ps qs : List Param) (a b : List ℕ) (o p : Option ℕ) → qs ≡ ps → b ≡ a → o ≡ output_named qs b → o ≡ p → output_named ps a ≡ p
+found_is ps qs a b o p e f h g = ap (λ x. output_named x a) (sym e) ∙ ap (output_named qs) (sym f) ∙ sym h ∙ g
+
+pub with_output : (gf pf : List ℕ) (g : Group) (s : Typed) (o p : Option ℕ) (told : List ℕ → Told) (before now : Counts) (r : Report) → o ≡ p → Reports (after_output gf pf g s p) told before now r
+    → Reports (after_output gf pf g s o) told before now r
+with_output gf pf g s o p told before now r e reports = subst (λ (x : Option ℕ). Reports (after_output gf pf g s x) told before now r) (sym e) reports
+
+pub job_report : (job other : Option Job) (files : Files) (r : Report) → job ≡ other → ComesTo (plan_of job) files r → ComesTo (plan_of other) files r
+job_report job other files r e c = subst (λ (x : Option Job). ComesTo (plan_of x) files r) e c
+
+pub none_read : {A : Type 0} → (read : Option A) (stop : Stop) → stop ≡ stops.NotBuilt → ReadsWhole {A = A} read (Err stop) → read ≡ None
+none_read {A} read stop e h = let P : Stop → Type 0 = λ s. ReadsWhole {A = A} read (Err s) in subst P e h

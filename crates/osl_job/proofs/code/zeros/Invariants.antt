@@ -1,0 +1,6 @@
+use Rattle.osl_typed.specs.Source.{zeros}
+use Rattle.osl_job.specs.Code.{Holds}
+use Rattle.osl_job.proofs.code.zeros.Given as goal
+
+abbrev pub invariant-loop-number : goal.invariant-loop-number
+invariant-loop-number l = Holds zeros l._number l.values.items

@@ -1,0 +1,46 @@
+use Rattle.std.proofs.Common.{◌∙◌, sym, map, string_bytes, inl, inr}
+use Rattle.osl_job.specs.Status.{code_of}
+use Rattle.osl_job.specs.Words.{job_of}
+use Rattle.osl_job.specs.Plan.{plan_of}
+use Rattle.osl_job.specs.Run.{text_of}
+use Rattle.osl_job.proofs.Reports.{nothing_written, complete_from_report, done_from_report, refusal_from_report, fault_from_report}
+use Rattle.osl_job.proofs.run_plain.Goals as goal
+
+pub returns-in_default-clause-cut_short : goal.returns-in_default-clause-cut_short
+returns-in_default-clause-cut_short g c cut files tells = nothing_written (plan_of (job_of (map string_bytes c.args.words.now))) files (g.K.Sink.written c.args.out.now)
+
+pub returns-in-Ok-print-clause-done : goal.returns-in-Ok-print-clause-done
+returns-in-Ok-print-clause-done g c e files tells = (
+  text_of c.in-Ok.report.lines.items,
+  done_from_report _ files _ _ (c.in-Ok.ensures.report files tells) (sym c.code.ensures ∙ e),
+  rw (← c.as_slice.ensures.value) c.in-Ok-print.ensures.all,
+)
+
+pub returns-in-Ok-print-clause-refused : goal.returns-in-Ok-print-clause-refused
+returns-in-Ok-print-clause-refused g c why e files tells = (
+  text_of c.in-Ok.report.lines.items,
+  refusal_from_report _ files _ _ why (c.in-Ok.ensures.report files tells) (sym c.code.ensures ∙ e),
+  rw (← c.as_slice.ensures.value) c.in-Ok-print.ensures.all,
+)
+
+pub returns-in-Ok-print-clause-read_fault : goal.returns-in-Ok-print-clause-read_fault
+returns-in-Ok-print-clause-read_fault g c e files tells = (
+  text_of c.in-Ok.report.lines.items,
+  fault_from_report _ files _ _ (c.in-Ok.ensures.report files tells) (sym c.code.ensures ∙ e),
+  rw (← c.as_slice.ensures.value) c.in-Ok-print.ensures.all,
+)
+
+pub returns-in-Ok-print-clause-usage_only : goal.returns-in-Ok-print-clause-usage_only
+returns-in-Ok-print-clause-usage_only g c none = inl (c.code.ensures ∙ c.in-Ok.ensures.words.1 none)
+
+pub returns-in-Ok-print-clause-complete : goal.returns-in-Ok-print-clause-complete
+returns-in-Ok-print-clause-complete g c clean files tells =
+    inr (c.code.ensures ∙ complete_from_report _ files _ _ (c.in-Ok.ensures.report files tells) (λ seven. clean.reads (c.in-Ok.ensures.cause.read_fault seven)))
+
+pub returns-in-Err-Fault-clause-cut_short : goal.returns-in-Err-Fault-clause-cut_short
+returns-in-Err-Fault-clause-cut_short g c cut files tells =
+    (text_of c.in-Ok.report.lines.items, (code_of c.in-Ok.report.status, c.in-Ok.ensures.report files tells), rw (← c.as_slice.ensures.value) c.in-Err-Fault.ensures.front)
+
+pub returns-clause-cut_short : goal.returns-clause-cut_short
+returns-clause-cut_short g c cut files tells =
+    (text_of c.in-Ok.report.lines.items, (code_of c.in-Ok.report.status, c.in-Ok.ensures.report files tells), rw (← c.as_slice.ensures.value) c.in-Err-Memory.ensures.front)

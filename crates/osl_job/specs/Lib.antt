@@ -1,0 +1,10 @@
+pub mod Text
+pub mod Reader
+pub mod Numbers
+pub mod Small
+pub mod Code
+pub mod Words
+pub mod Status
+pub mod Verdict
+pub mod Plan
+pub mod Run

@@ -1,0 +1,123 @@
+-- What the contract of a top call says, in named facts.
+use Rattle.std.specs.Prelude.{◌≡◌, ◌≢◌, ◌≤◌, ℕ, List, ◌++◌, length, codes, Bool, IsTrue, Option, Some, Vec}
+use Rattle.std.specs.Global.{Global}
+use Rattle.std.specs.List.{flat_map}
+use Rattle.std.specs.Io.KnownBytes.{Appends}
+use Rattle.osl_store.specs.Counts.{Counts, Rose, NoneFell, StaysFaultless}
+use Rattle.osl_store.specs.Files.{Told, Files, Tells, SameFiles}
+use Rattle.osl_store.specs.Written.{AppendsFront}
+use Rattle.osl_job.specs.declared.report.Refusal.{Refusal}
+use Rattle.osl_job.specs.declared.report.Status.TheVariants as status
+use Rattle.osl_job.specs.declared.report.Report.{Report}
+use Rattle.osl_job.specs.declared.steps.Fetched.{Fetched}
+use Rattle.osl_job.specs.declared.steps.Fetched.TheVariants.{Bytes, Stops}
+use Rattle.osl_job.specs.Status.{code_of, refusal_code, done, read_fault}
+use Rattle.osl_job.specs.Verdict.{AcceptedJob, Verdict, Refused, Accepted, IsOutText, line}
+use Rattle.osl_job.specs.Plan.{Plan, Read, verdict, ComesToRead}
+
+-- ---- over told files, and what is written
+
+-- a fact over the files that the store tells, where it tells all
+abbrev pub OverTold : (List ℕ → Told) → (Files → Type 0) → Type 0
+OverTold told P = (files : Files) → Tells told files → P files
+
+-- a text with this property was written
+abbrev pub Writes : Option (List ℕ) → Option (List ℕ) → (List ℕ → Type 0) → Type 0
+Writes old new P = (text : List ℕ) × P text × Appends old new text
+
+-- a front of a text with this property was written
+abbrev pub WritesFront : Option (List ℕ) → Option (List ℕ) → (List ℕ → Type 0) → Type 0
+WritesFront old new P = (text : List ℕ) × P text × AppendsFront old new text
+
+-- ---- the texts of a run that nothing cuts short
+
+-- the job is accepted, and this is a text that it may print
+abbrev pub IsDone : Verdict → List ℕ → Type 0
+IsDone (Refused why refusal) text = ⊥
+IsDone (Accepted job) text = IsOutText job text
+
+-- the job is refused for this reason, and this is the line
+pub record IsRefusal (why : Refusal) (v : Verdict) (text : List ℕ) : Type 0 where
+  pub refusal : List ℕ
+  pub refused : v ≡ Refused why refusal
+  pub wrote : text ≡ line refusal
+
+-- a file that the job comes to read could not be read, and this is the line
+pub record IsReadFault (plan : Plan) (files : Files) (text : List ℕ) : Type 0 where
+  pub name : List ℕ
+  pub reads : ComesToRead plan files name
+  pub wrote : text ≡ line (name ++ codes ": read fault")
+
+-- the status and the text of a run that nothing cuts short
+pub data IsReport (plan : Plan) (files : Files) (status : ℕ) (text : List ℕ) : Type 0 where
+  is_done : status ≡ done → IsDone (verdict plan files) text → IsReport plan files status text
+  is_refused : (why : Refusal) → status ≡ refusal_code why → IsRefusal why (verdict plan files) text → IsReport plan files status text
+  is_fault : status ≡ read_fault → IsReadFault plan files text → IsReport plan files status text
+
+-- a text of the job: what it may print, or the line of a refusal or of a read that failed
+abbrev pub IsText : Plan → Files → List ℕ → Type 0
+IsText plan files text = (status : ℕ) × IsReport plan files status text
+
+-- ---- which counts rose
+
+-- which count rose where a store was at fault
+pub record HasCause (status : ℕ) (before now : Counts) : Type 0 where
+  pub absent : status ≡ 6 → Rose before.absents now.absents
+  pub read_fault : status ≡ 7 → Rose before.faults now.faults
+  pub large : status ≡ 10 → Rose before.larges now.larges
+
+-- no count of faults rose
+pub record NoFaultRose (before now : Counts) (sink_before sink_now : ℕ) : Type 0 where
+  pub reads : Rose before.faults now.faults → ⊥
+  pub writes : Rose before.write_faults now.write_faults → ⊥
+  pub puts : Rose sink_before sink_now → ⊥
+
+-- a store and a sink of which no call fails stay such, and count no faults
+pub record StaysClean (store_old store_new sink_old sink_new : Bool) (before now : Counts) (sink_before sink_now : ℕ) : Type 0 where
+  pub store_still : IsTrue store_old → IsTrue store_new
+  pub sink_still : IsTrue sink_old → IsTrue sink_new
+  pub reads : IsTrue store_old → now.faults ≡ before.faults
+  pub writes : IsTrue store_old → now.write_faults ≡ before.write_faults
+  pub puts : IsTrue sink_old → sink_now ≡ sink_before
+
+-- what reading leaves of a store
+pub record OnlyRead (told_before told_now : List ℕ → Told) (before now : Counts) (faultless_before faultless_now : Bool) : Type 0 where
+  pub files : SameFiles told_before told_now
+  pub later : NoneFell before now
+  pub faultless : StaysFaultless faultless_before faultless_now before now
+
+-- ---- reports
+
+-- the text of lines
+abbrev pub text_of : List (Vec ℕ Global) → List ℕ
+text_of = flat_map (λ l. l.items)
+
+-- what is left of a job comes to this report
+abbrev pub ComesTo : Plan → Files → Report → Type 0
+ComesTo plan files r = IsReport plan files (code_of r.status) (text_of r.lines.items)
+
+-- what a step of a job answers: the report of what is left of it, with its cause
+pub record Reports (plan : Plan) (told : List ℕ → Told) (before now : Counts) (r : Report) : Type 0 where
+  pub report : OverTold told (λ files. ComesTo plan files r)
+  pub cause : HasCause (code_of r.status) before now
+  pub usage : code_of r.status ≢ 2
+
+-- this report is this refusal
+pub record IsRefused (why : Refusal) (text : List ℕ) (r : Report) : Type 0 where
+  pub status : r.status ≡ status.Refused why
+  pub wrote : text_of r.lines.items ≡ line text
+
+-- what a fetch of a file gives: its bytes within the limit, or the report of any job that begins by reading it
+abbrev pub Fetches : List ℕ → ℕ → Files → Fetched → Type 0
+Fetches name limit files (Bytes bytes) = (files name ≡ Some bytes.items) × (length bytes.items ≤ limit)
+Fetches name limit files (Stops r) = (next : List ℕ → Plan) → ComesTo (Read name limit next) files r
+
+-- a fetch that ends the job has its cause
+abbrev pub FetchHasCause : Counts → Counts → Fetched → Type 0
+FetchHasCause before now (Bytes bytes) = Unit {0}
+FetchHasCause before now (Stops r) = HasCause (code_of r.status) before now × (code_of r.status ≢ 2)
+
+-- this report shows an accepted job
+pub record IsShown (job : AcceptedJob) (r : Report) : Type 0 where
+  pub status : r.status ≡ status.Done
+  pub wrote : IsOutText job (text_of r.lines.items)

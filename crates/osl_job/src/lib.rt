@@ -1,0 +1,99 @@
+//! The top call: a job of the program, from its words to the lines that it prints and the status that it ends with.
+//!
+//! Definitions in `specs/`: `Words` gives the job that words spell; `Plan` the files that a job reads, in order,
+//! and the verdict over given files; `Verdict` what may be printed of an accepted job; `Run` the words of the
+//! contract. `Text`, `Reader`, `Numbers` and `Small` are the small forms of shader, group and point texts that
+//! are built today, and `Code` what the ops do that a shader becomes. Readers and ops are private.
+#![tactic(auto)]
+
+ghost use Rattle.std.specs.Prelude.{◌≡◌, ◌⊎◌, List, ℕ, map, string_bytes, None};
+ghost use Rattle.osl_store.specs.Counts.{Rose};
+ghost use Rattle.osl_store.specs.Files.{SameFiles};
+ghost use Rattle.osl_job.specs.declared.report.Refusal.{Refusal};
+ghost use Rattle.osl_job.specs.Status.{done, read_fault, write_fault, no_memory, refusal_code};
+ghost use Rattle.osl_job.specs.Words.{job_of};
+ghost use Rattle.osl_job.specs.Plan.{plan_of, verdict};
+ghost use Rattle.osl_job.specs.Verdict.{status_of};
+ghost use Rattle.osl_job.specs.Run.{OverTold, Writes, WritesFront, IsDone, IsRefusal, IsReadFault, IsText, HasCause, NoFaultRose, StaysClean};
+
+use osl_store::{PutError, Sink, Store};
+use std::alloc::Global;
+
+mod code;
+mod group;
+mod names;
+mod numbers;
+mod report;
+mod shader;
+mod steps;
+mod text;
+mod words;
+
+use report::print;
+use steps::work;
+
+/// A write fault, of a put or of a store.
+const WRITE_FAULT: u8 = 8;
+
+/// Memory was refused.
+const NO_MEMORY: u8 = 9;
+
+/// Does what the words ask for, and answers the status. All printing follows the work, and each printed line is
+/// one `put`.
+///
+/// The status is 0 where the job is done; 2 where the words spell no job; 6 where a file is absent; 7 where a
+/// read failed; 8 where a put failed; 9 where memory was refused; 10 where a file is too large; 11 where the words
+/// or a file ask for a form that is not built yet.
+pub fn run_plain<S: Store, K: Sink>(
+    alloc: Global,
+    words: &[String],
+    store: &mut S,
+    out: &mut K,
+) -> u8
+    // Over told files, at status 0 the job is accepted, and what was written is a text that it may print.
+    ensures done { result ≡ done → OverTold (S.file store.old) (λ files.
+        Writes (K.written out.old) (K.written out.new) (IsDone (verdict (plan_of (job_of (map string_bytes words.now))) files))) }
+
+    // A refusal is the verdict's, and exactly its line was written.
+    ensures refused { (why : Refusal) → result ≡ refusal_code why → OverTold (S.file store.old) (λ files.
+        Writes (K.written out.old) (K.written out.new) (IsRefusal why (verdict (plan_of (job_of (map string_bytes words.now))) files))) }
+
+    // A read fault: exactly the line of a file that the job comes to read was written.
+    ensures read_fault { result ≡ read_fault → OverTold (S.file store.old) (λ files.
+        Writes (K.written out.old) (K.written out.new) (IsReadFault (plan_of (job_of (map string_bytes words.now))) files)) }
+
+    // Cut short by a put that failed, or by want of memory: a front of a text of the job was written.
+    ensures write_fault { result ≡ write_fault → Rose (K.faults out.old) (K.faults out.new) }
+    ensures cut_short { (result ≡ write_fault) ⊎ (result ≡ no_memory) → OverTold (S.file store.old) (λ files.
+        WritesFront (K.written out.old) (K.written out.new) (IsText (plan_of (job_of (map string_bytes words.now))) files)) }
+
+    // Over every store: which count rose, and that usage is a matter of the words alone.
+    ensures cause { HasCause result (S.counts store.old) (S.counts store.new) }
+    ensures usage { result ≡ refusal_code Refusal.Usage → job_of (map string_bytes words.now) ≡ None }
+    ensures usage_only { job_of (map string_bytes words.now) ≡ None →
+        (result ≡ refusal_code Refusal.Usage) ⊎ (result ≡ write_fault) ⊎ (result ≡ no_memory) }
+
+    // Where no count of faults rose, the status is that of the verdict, unless memory was refused.
+    ensures complete { NoFaultRose (S.counts store.old) (S.counts store.new) (K.faults out.old) (K.faults out.new) →
+        OverTold (S.file store.old) (λ files.
+        (result ≡ no_memory) ⊎ (result ≡ status_of (verdict (plan_of (job_of (map string_bytes words.now))) files))) }
+
+    // No count of faults rises over a store and a sink of which no call fails.
+    ensures clean { StaysClean (S.faultless store.old) (S.faultless store.new) (K.faultless out.old) (K.faultless out.new)
+        (S.counts store.old) (S.counts store.new) (K.faults out.old) (K.faults out.new) }
+
+    // Every file is as before.
+    ensures files { SameFiles (S.file store.old) (S.file store.new) }
+{
+    let Ok(report) = work(alloc, words, store) else {
+        return NO_MEMORY;
+    };
+    match print(report.lines.as_slice(), out) {
+        Ok(()) => report.status.code(),
+        Err(PutError::Fault) => WRITE_FAULT,
+        Err(PutError::Memory) => NO_MEMORY,
+    }
+}
+
+#[cfg(test)]
+mod tests;

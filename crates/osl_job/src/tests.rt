@@ -1,0 +1,218 @@
+use crate::run_plain;
+use osl_store::{MemorySink, MemoryStore};
+use std::alloc::{AllocError, Global};
+use std::test::Fail;
+
+const ADD1: &str = "shader add1(float a = 2, output float r = 0) { r = a + 0.5; }";
+
+const GROUP: &str = "shader add1 a ; output a.r ;";
+
+/// Words, group, shader (where its file is there) and points; the status, and what is printed.
+type Row = (
+    &'static str,
+    &'static str,
+    &'static str,
+    &'static str,
+    u8,
+    &'static str,
+);
+
+static ROWS: [Row; 22] = [
+    (
+        "shade g p",
+        GROUP,
+        ADD1,
+        "point\n",
+        0,
+        "freeze 0\npoint 0 worker 0 after 0\n out a.r 2.5\nend\n",
+    ),
+    (
+        "shade g p",
+        GROUP,
+        "shader add1(float a = 9223372036.854775807, output float r = 0) { r = a + 0.5; }",
+        "point",
+        0,
+        "freeze 0\npoint 0 worker 0 after 0\n out a.r 9223372036.854775807\nend\n",
+    ),
+    (
+        "shade g p",
+        "# one layer\nshader add1 top;output top.r;",
+        "shader add1(float a = 1, float b = 2, float c = 0x3, output float r = 0) { r = a - b - c; r = r + r; }",
+        "# one point\n\tpoint \r\n",
+        0,
+        "freeze 0\npoint 0 worker 0 after 0\n out top.r -8\nend\n",
+    ),
+    ("", GROUP, ADD1, "point", 2, "usage\n"),
+    ("shade g", GROUP, ADD1, "point", 2, "usage\n"),
+    ("paint g p", GROUP, ADD1, "point", 2, "usage\n"),
+    ("demo 1", GROUP, ADD1, "point", 11, "not built\n"),
+    (
+        "shade g p --serial",
+        GROUP,
+        ADD1,
+        "point",
+        11,
+        "not built\n",
+    ),
+    ("shade -g p", GROUP, ADD1, "point", 11, "not built\n"),
+    ("shade none p", GROUP, ADD1, "point", 6, "none: absent\n"),
+    ("shade g p", GROUP, "", "point", 6, "add1.osl: absent\n"),
+    ("shade g none", GROUP, ADD1, "point", 6, "none: absent\n"),
+    (
+        "shade g p",
+        "shader add1 a ; output b.r ;",
+        ADD1,
+        "point",
+        11,
+        "g: not built\n",
+    ),
+    (
+        "shade g p",
+        "shader add1 a ; output a.r",
+        ADD1,
+        "point",
+        11,
+        "g: not built\n",
+    ),
+    (
+        "shade g p",
+        "shader add1 a ; output a.a ;",
+        ADD1,
+        "point",
+        11,
+        "g: not built\n",
+    ),
+    ("shade g p", GROUP, ADD1, "", 11, "p: not built\n"),
+    (
+        "shade g p",
+        GROUP,
+        ADD1,
+        "point point",
+        11,
+        "p: not built\n",
+    ),
+    (
+        "shade g p",
+        GROUP,
+        "shader add1(float a = 2) { a = 1.0; }",
+        "point",
+        11,
+        "add1.osl: not built\n",
+    ),
+    (
+        "shade g p",
+        GROUP,
+        "shader add1(output float r = 0) { r = 1; }",
+        "point",
+        11,
+        "add1.osl: not built\n",
+    ),
+    (
+        "shade g p",
+        GROUP,
+        "shader add1(output float r = 0, float r = 1) { }",
+        "point",
+        11,
+        "add1.osl: not built\n",
+    ),
+    (
+        "shade g p",
+        GROUP,
+        "shader add1(output float r = 1.0000000001) { }",
+        "point",
+        11,
+        "add1.osl: not built\n",
+    ),
+    (
+        "shade g p",
+        GROUP,
+        "shader add1(output float r = 0) { r = r / r; }",
+        "point",
+        11,
+        "add1.osl: not built\n",
+    ),
+];
+
+fn words_of(alloc: Global, line: &str) -> Result<Vec<String>, AllocError> {
+    let mut words = Vec::new(alloc);
+    for word in line.split_whitespace() {
+        words.push(String::from_str(alloc, word)?)?;
+    }
+    Ok(words)
+}
+
+fn add_file(
+    alloc: Global,
+    files: &mut Vec<(String, Vec<u8>)>,
+    name: &str,
+    text: &str,
+) -> Result<(), AllocError> {
+    let bytes = Vec::from_slice(alloc, text.as_bytes())?;
+    files.push((String::from_str(alloc, name)?, bytes))?;
+    Ok(())
+}
+
+/// The files of a row, of whose reads one may fail.
+fn store_of(alloc: Global, row: &Row, fail_read: u64) -> Result<MemoryStore, AllocError> {
+    let mut files = Vec::new(alloc);
+    add_file(alloc, &mut files, "g", row.1)?;
+    if !row.2.is_empty() {
+        add_file(alloc, &mut files, "add1.osl", row.2)?;
+    }
+    add_file(alloc, &mut files, "p", row.3)?;
+    Ok(MemoryStore::new(files, vec![in alloc; fail_read]?, Vec::new(alloc)))
+}
+
+#[test]
+fn each_form_and_each_refusal(rt: HostRuntime) -> Result<(), Fail> {
+    let alloc = rt.alloc();
+    for row in &ROWS {
+        let words = words_of(alloc, row.0)?;
+        let mut store = store_of(alloc, row, 0)?;
+        let mut out = MemorySink::new(alloc, Vec::new(alloc));
+        let status = run_plain(alloc, words.as_slice(), &mut store, &mut out);
+        assert_eq!(rt; status, row.4, "{} {}", row.0, row.5);
+        assert_eq!(rt; out.bytes(), row.5.as_bytes(), "{} {}", row.0, row.5);
+    }
+    Ok(())
+}
+
+/// The first row, of which a read or a put fails, or whose shader is too large: the status, and what is printed.
+#[test]
+fn faults(rt: HostRuntime) -> Result<(), Fail> {
+    let alloc = rt.alloc();
+    let rows = [
+        (1u64, 0u64, 7u8, "g: read fault\n"),
+        (2, 0, 7, "add1.osl: read fault\n"),
+        (3, 0, 7, "p: read fault\n"),
+        (0, 1, 8, ""),
+        (0, 3, 8, "freeze 0\npoint 0 worker 0 after 0\n"),
+    ];
+    let words = words_of(alloc, "shade g p")?;
+    for (fail_read, fail_put, status, text) in rows {
+        let mut store = store_of(alloc, &ROWS[0], fail_read)?;
+        let mut out = MemorySink::new(alloc, vec![in alloc; fail_put]?);
+        let answer = run_plain(alloc, words.as_slice(), &mut store, &mut out);
+        assert_eq!(rt; answer, status, "{text}");
+        assert_eq!(rt; out.bytes(), text.as_bytes(), "{text}");
+    }
+    Ok(())
+}
+
+#[test]
+fn a_shader_that_is_too_large(rt: HostRuntime) -> Result<(), Fail> {
+    let alloc = rt.alloc();
+    let mut files = Vec::new(alloc);
+    add_file(alloc, &mut files, "g", GROUP)?;
+    files.push((
+        String::from_str(alloc, "add1.osl")?,
+        vec![in alloc; b' '; 1_048_577]?,
+    ))?;
+    let mut store = MemoryStore::new(files, Vec::new(alloc), Vec::new(alloc));
+    let mut out = MemorySink::new(alloc, Vec::new(alloc));
+    let words = words_of(alloc, "shade g p")?;
+    let status = run_plain(alloc, words.as_slice(), &mut store, &mut out);
+    assert_eq!(rt; status, 10);
+    assert_eq!(rt; out.bytes(), b"add1.osl: too large\n".as_slice());
+    Ok(())
+}
