@@ -1,0 +1,4 @@
+pub mod Weights
+pub mod Primitives
+pub mod Parts
+pub mod Walk
