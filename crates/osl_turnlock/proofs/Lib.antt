@@ -1,0 +1,12 @@
+pub mod Totals
+pub mod Prefixes
+pub mod Stages
+pub mod Numbers
+pub mod Logs
+pub mod Sums
+pub mod Whole
+pub mod Retold
+pub mod Taking
+pub mod Moves
+pub mod Telling
+pub mod Ends
