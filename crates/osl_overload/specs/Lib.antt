@@ -1,0 +1,4 @@
+pub mod Kinds
+pub mod Cost
+pub mod Choice
+pub mod Standing

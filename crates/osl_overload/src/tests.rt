@@ -1,0 +1,156 @@
+use crate::{Arg, Choice, Formal, FormalList, Kind, Signature, choose};
+use osl_value::{Base, Ty};
+use std::alloc::{AllocError, Global};
+use std::test::Fail;
+
+fn of(base: Base) -> Kind {
+    Kind::Value(Ty { base, len: 0 })
+}
+
+fn array_of(base: Base, len: u32) -> Kind {
+    Kind::Value(Ty { base, len })
+}
+
+fn input(kind: Kind) -> Formal {
+    Formal {
+        kind,
+        output: false,
+    }
+}
+
+fn value(kind: Kind) -> Arg {
+    Arg {
+        kind,
+        zero_literal: false,
+        writable: false,
+    }
+}
+
+fn function(alloc: Global, formals: &[Formal]) -> Result<Signature, AllocError> {
+    let params = FormalList::new(Vec::from_slice(alloc, formals)?);
+    Ok(Signature {
+        params,
+        result: Kind::Void,
+    })
+}
+
+/// The choice between two functions.
+fn between(
+    alloc: Global,
+    first: &[Formal],
+    second: &[Formal],
+    args: &[Arg],
+) -> Result<Choice, AllocError> {
+    let candidates = [function(alloc, first)?, function(alloc, second)?];
+    Ok(choose(&candidates, args))
+}
+
+#[test]
+fn least_cost_of_one_argument(rt: HostRuntime) -> Result<(), Fail> {
+    let (int, float, color) = (of(Base::Int), of(Base::Float), of(Base::Color));
+    let (point, normal, closure) = (of(Base::Point), of(Base::Normal), of(Base::Closure));
+    let zero = Arg {
+        kind: int,
+        zero_literal: true,
+        writable: false,
+    };
+    let rows = [
+        (color, float, value(int), Choice::Chosen(1)),
+        (float, int, value(int), Choice::Chosen(1)),
+        (color, point, value(int), Choice::Ambiguous),
+        (color, of(Base::Str), value(float), Choice::Chosen(0)),
+        (
+            of(Base::Str),
+            of(Base::Matrix),
+            value(int),
+            Choice::NoCandidate,
+        ),
+        (normal, color, value(point), Choice::Chosen(0)),
+        (color, float, value(point), Choice::NoCandidate),
+        (closure, of(Base::Str), zero, Choice::Chosen(0)),
+        (closure, color, zero, Choice::Ambiguous),
+        (closure, float, zero, Choice::Chosen(1)),
+        (closure, of(Base::Str), value(int), Choice::NoCandidate),
+        (
+            array_of(Base::Float, 2),
+            float,
+            value(array_of(Base::Float, 2)),
+            Choice::Chosen(0),
+        ),
+        (
+            array_of(Base::Float, 3),
+            float,
+            value(array_of(Base::Float, 2)),
+            Choice::NoCandidate,
+        ),
+        (
+            array_of(Base::Float, 2),
+            color,
+            value(array_of(Base::Int, 2)),
+            Choice::NoCandidate,
+        ),
+        (
+            Kind::Structure(4),
+            Kind::Structure(5),
+            value(Kind::Structure(5)),
+            Choice::Chosen(1),
+        ),
+        (
+            Kind::Structure(4),
+            float,
+            value(Kind::Void),
+            Choice::NoCandidate,
+        ),
+    ];
+    for (first, second, arg, wanted) in rows {
+        let answer = between(rt.alloc(), &[input(first)], &[input(second)], &[arg])?;
+        assert_eq!(rt; answer, wanted, "{first:?} or {second:?} for {arg:?}");
+    }
+    Ok(())
+}
+
+#[test]
+fn costs_are_added(rt: HostRuntime) -> Result<(), Fail> {
+    let alloc = rt.alloc();
+    let (int, float) = (input(of(Base::Int)), input(of(Base::Float)));
+    let ints = [value(of(Base::Int)), value(of(Base::Int))];
+    assert_eq!(rt;
+        between(alloc, &[float, int], &[int, float], &ints)?,
+        Choice::Ambiguous
+    );
+    assert_eq!(rt;
+        between(alloc, &[float, float], &[int, float], &ints)?,
+        Choice::Chosen(1)
+    );
+    assert_eq!(rt;
+        between(alloc, &[int], &[int, int, int], &ints)?,
+        Choice::NoCandidate
+    );
+    assert_eq!(rt; between(alloc, &[], &[int], &[])?, Choice::Chosen(0));
+    assert_eq!(rt; choose(&[], &ints), Choice::NoCandidate);
+    Ok(())
+}
+
+#[test]
+fn outputs_keep_their_kind(rt: HostRuntime) -> Result<(), Fail> {
+    let alloc = rt.alloc();
+    let output = Formal {
+        kind: of(Base::Float),
+        output: true,
+    };
+    let rows = [
+        (Base::Float, true, Choice::Chosen(0)),
+        (Base::Float, false, Choice::Chosen(1)),
+        (Base::Int, true, Choice::Chosen(1)),
+    ];
+    for (base, writable, wanted) in rows {
+        let arg = Arg {
+            kind: of(base),
+            zero_literal: false,
+            writable,
+        };
+        let answer = between(alloc, &[output], &[input(of(Base::Color))], &[arg])?;
+        assert_eq!(rt; answer, wanted, "{arg:?}");
+    }
+    Ok(())
+}
