@@ -1,0 +1,11 @@
+pub mod Steps
+pub mod Begins
+pub mod Lists
+pub mod Sound
+pub mod Complete
+pub mod StatementSound
+pub mod StatementComplete
+pub mod FileSound
+pub mod FileComplete
+pub mod Parsed
+pub mod Texts

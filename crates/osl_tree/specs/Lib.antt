@@ -1,0 +1,12 @@
+pub mod Numbers
+pub mod Lexical
+pub mod Marks
+pub mod Lexeme
+pub mod Lexemes
+pub mod Grammar
+pub mod Statements
+pub mod Files
+pub mod Parser
+pub mod Reading
+pub mod StatementReading
+pub mod FileReading
