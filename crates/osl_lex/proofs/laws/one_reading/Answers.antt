@@ -1,0 +1,9 @@
+use Rattle.osl_lex.proofs.OneReading.{one_reading_of}
+use Rattle.osl_lex.proofs.SomeReading.{some_reading_of}
+use Rattle.osl_lex.proofs.laws.one_reading.Goals as goal
+
+pub returns-clause-some : goal.returns-clause-some
+returns-clause-some c = some_reading_of
+
+pub returns-clause-one : goal.returns-clause-one
+returns-clause-one c = one_reading_of

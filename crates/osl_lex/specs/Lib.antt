@@ -1,0 +1,5 @@
+pub mod Scan
+pub mod Signs
+pub mod Value
+pub mod Pieces
+pub mod Readings
