@@ -1,6 +1,7 @@
 -- Worked values of the definitions, found by computing.
 use Rattle.std.proofs.Common.{◌≡◌, pos, negsuc, neg_ℤ, [], ◌∷◌, refl}
 use Rattle.std.specs.Prelude.{codes}
+use Rattle.std.specs.Int.{int_wrap}
 use Rattle.osl_value.specs.Numbers.{fx_mul, fx_div, fx_fmod, fx_mod, fx_round, fx_floor, fx_sqrt, fx_smoothstep, root_of, root_by, fmax}
 use Rattle.osl_value.specs.Geometry.{normalize, place}
 use Rattle.osl_value.specs.Strings.{substr, getchar}
@@ -28,6 +29,7 @@ unfolding root_of root_by
 unit = refl
 
 texts : (substr (codes "abcd") (pos 10) (pos 2) ≡ []) × (getchar (codes "a") (pos 1) ≡ pos 0)
+unfolding int_wrap
 texts = (refl, refl)
 
 places : (place (negsuc 0) 3 ≡ 0) × (place (pos 3) 3 ≡ 2)

@@ -14,7 +14,7 @@ use Rattle.osl_value.specs.Table.{Rule, On, Made, Assigned, ElementRead, Element
 -- ---- which types
 
 -- as many arguments as the function takes
-abbrev takes_count : Numeric → List Ty → Bool
+abbrev pub takes_count : Numeric → List Ty → Bool
 takes_count f types = not (arity f == 0) && (arity f == length types)
 
 -- ints alone
@@ -22,7 +22,7 @@ abbrev pub takes_ints : Row → Ty → List Ty → Bool
 takes_ints row ty types = takes_count row.ints types && fits AnInt ty && list_all (fits AnInt) types
 
 -- floats for a float; floats and triples for a triple
-abbrev is_float_part : Ty → Ty → Bool
+abbrev pub is_float_part : Ty → Ty → Bool
 is_float_part ty arg = fits AFloat arg || (is_one_triple ty && is_one_triple arg)
 
 abbrev pub takes_floats : Row → Ty → List Ty → Bool
@@ -70,7 +70,7 @@ abbrev pub floats_value : Row → Ty → List AnyValue → AnyValue
 floats_value row ty args = with_numbers ty (each (number_count ty) row.floats (map numbers_of args))
 
 -- the place in the array that is the first argument, by the index that is the second
-abbrev array_place : List AnyValue → ℕ
+abbrev pub array_place : List AnyValue → ℕ
 array_place args = place (seen_of AnInt (argument args 1)) (type_of (argument args 0)).len
 
 abbrev pub other_value : Ty → List AnyValue → Rule → AnyValue

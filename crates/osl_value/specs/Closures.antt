@@ -1,4 +1,4 @@
--- Closures, each the list of its parts.
+-- Closures (OSL specification, "Material closures"), each the list of its parts.
 use Rattle.std.specs.Prelude.{ℕ, ℤ, pos, Bool, not, List, [], ◌∷◌, ◌++◌, map, take}
 use Rattle.std.specs.List.{filter, list_all}
 use Rattle.osl_value.specs.declared.closure.Primitive.{Primitive}

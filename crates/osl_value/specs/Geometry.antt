@@ -1,4 +1,4 @@
--- Triples and matrices: a triple stands here as its 3 floats, a matrix as its 16 floats by rows, a float as its units.
+-- Triples and matrices (OSL specification, "Geometric functions" and "Matrix functions"): a triple stands here as its 3 floats, a matrix as its 16 floats by rows, a float as its units.
 use Rattle.std.specs.Prelude.{ℕ, ◌+◌, ◌-◌, ◌*◌, ◌==◌, min, ℤ, pos, Bool, not, if◌then◌else◌, List, [], ◌∷◌, ◌++◌, map, length, slice_index_or, slice_set}
 use Rattle.std.specs.List.{range_with_len}
 use Rattle.std.specs.Cmp.Lexicographic.{pointwise}
@@ -51,7 +51,7 @@ dot a b =
     (fx_mul (number_at a 2) (number_at b 2))
 
 -- one component of a cross product: a_i * b_j - a_j * b_i
-abbrev cross_at : List ℤ → List ℤ → ℕ → ℕ → ℤ
+abbrev pub cross_at : List ℤ → List ℤ → ℕ → ℕ → ℤ
 cross_at a b i j = fx_sub (fx_mul (number_at a i) (number_at b j)) (fx_mul (number_at a j) (number_at b i))
 
 abbrev pub cross : List ℤ → List ℤ → List ℤ
@@ -73,7 +73,7 @@ abbrev pub element_at : List ℤ → ℕ → ℕ → ℤ
 element_at m i j = number_at m (4 * i + j)
 
 -- the matrix with these elements
-abbrev row_of : (ℕ → ℕ → ℤ) → ℕ → List ℤ
+abbrev pub row_of : (ℕ → ℕ → ℤ) → ℕ → List ℤ
 row_of f i = f i 0 ∷ f i 1 ∷ f i 2 ∷ f i 3 ∷ []
 
 abbrev pub matrix_of : (ℕ → ℕ → ℤ) → List ℤ
@@ -96,7 +96,7 @@ abbrev pub diagonal : ℤ → List ℤ
 diagonal x = matrix_of (λ i j. if i == j then x else pos 0)
 
 -- row i of a times column j of b, from left to right
-abbrev product_at : List ℤ → List ℤ → ℕ → ℕ → ℤ
+abbrev pub product_at : List ℤ → List ℤ → ℕ → ℕ → ℤ
 product_at a b i j =
     fx_add
     (fx_add
@@ -111,14 +111,14 @@ abbrev pub transpose : List ℤ → List ℤ
 transpose m = matrix_of (λ i j. element_at m j i)
 
 -- component j of a triple times the upper three rows
-abbrev turned_at : List ℤ → List ℤ → ℕ → ℤ
+abbrev pub turned_at : List ℤ → List ℤ → ℕ → ℤ
 turned_at m p j =
     fx_add
     (fx_add (fx_mul (number_at p 0) (element_at m 0 j)) (fx_mul (number_at p 1) (element_at m 1 j)))
     (fx_mul (number_at p 2) (element_at m 2 j))
 
 -- a point is moved by the last row too
-abbrev transformed_at : Bool → List ℤ → List ℤ → ℕ → ℤ
+abbrev pub transformed_at : Bool → List ℤ → List ℤ → ℕ → ℤ
 transformed_at is_point m p j =
     if is_point then fx_add (turned_at m p j) (element_at m 3 j) else turned_at m p j
 

@@ -1,16 +1,20 @@
 -- What holds of the table as a whole.
 use Rattle.std.specs.Prelude.{◌≡◌, ◌<◌, ℤ, pos, FitsSigned, List, [], ◌∷◌, length, map, IsTrue}
 use Rattle.std.specs.Int.{w32}
+use Rattle.std.specs.List.{All}
 use Rattle.osl_value.specs.declared.op_name.OpName.{OpName}
 use Rattle.osl_value.specs.declared.op_name.OpName.TheVariants.{Assign}
 use Rattle.osl_value.specs.declared.types.Base.TheVariants.{Int}
 use Rattle.osl_value.specs.declared.types.Ty.{Ty}
+use Rattle.osl_value.specs.declared.closure.Part.{Part}
+use Rattle.osl_value.specs.Closures.{full_weight, weighted}
 use Rattle.osl_value.specs.AnyValue.{AnyValue, type_of, numbers_of, with_numbers}
 use Rattle.osl_value.specs.Apply.{apply, is_allowed, takes_floats}
 use Rattle.osl_value.specs.Geometry.{number_at, each}
 use Rattle.osl_value.specs.Numbers.{scale, IsInRange, arity, value_at, fx_add, fx_sub, fx_mul, fx_div, fx_mix, int_add, int_sub, int_mul, int_quotient}
 use Rattle.osl_value.specs.OpText.{name_of}
 use Rattle.osl_value.specs.Table.{table}
+use Rattle.osl_value.specs.WellFormed.{AreParts, IsValue}
 use Rattle.osl_value.specs.Types.{only, number_count}
 
 -- no two operations have one name
@@ -66,3 +70,13 @@ pub record IntsKeep : Type 0 where
   pub div_right : (n : ℤ) → FitsSigned w32 n → int_quotient n (pos 1) ≡ n
   pub mul_zero : (n : ℤ) → (int_mul n (pos 0) ≡ pos 0) × (int_mul (pos 0) n ≡ pos 0)
   pub div_zero : (n : ℤ) → (int_quotient (pos 0) n ≡ pos 0) × (int_quotient n (pos 0) ≡ pos 0)
+
+-- on values an operation gives a value: counts fit, and numbers are in range
+abbrev pub GivesValues : Type 0
+GivesValues =
+    (op : OpName) (ty : Ty) (args : List AnyValue) → All IsValue args → IsTrue (is_allowed op ty (map type_of args)) → IsValue (apply op ty args)
+
+-- a factor of 1, as a number or as a color, leaves the parts of a closure as they were
+abbrev pub ClosuresKeep : Type 0
+ClosuresKeep =
+    (parts : List Part) → AreParts parts → (weighted (pos scale ∷ []) parts ≡ parts) × (weighted full_weight parts ≡ parts)

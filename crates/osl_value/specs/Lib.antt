@@ -11,3 +11,4 @@ pub mod PrimitiveText
 pub mod Strings
 pub mod Table
 pub mod Types
+pub mod WellFormed

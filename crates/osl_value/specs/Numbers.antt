@@ -1,4 +1,4 @@
--- The two kinds of numbers. A `float` is a whole number of units of 10^-9 and stands here as its units; an `int` has 32 bits and stands as itself. Each operation on one, two or three numbers.
+-- The two kinds of numbers, and each operation on one, two or three of them (OSL specification, "Basic math functions", in this project's own arithmetic). A `float` is a whole number of units of 10^-9 and stands here as its units; an `int` has 32 bits and stands as itself.
 use Rattle.std.specs.Prelude.{ℕ, zero, suc, ◌+◌, ◌-◌, ◌*◌, ◌/◌, ◌%◌, ◌^◌, ◌<◌, ◌≤◌, min, nat_le, Bool, false, ◌&&◌, ◌==◌, not, if◌then◌else◌, ℤ, pos, negsuc, neg_ℤ, ◌+ℤ◌, ◌-ℤ◌, ◌*ℤ◌, int_div, int_rem, int_lt, int_le, unsigned_abs, bit_and, bit_or, bit_xor}
 use Rattle.std.specs.Int.{w32, saturate_signed, int_min, int_max, int_signum, int_div_euclid, int_rem_euclid, int_wrap, cast_signed, cast_unsigned, is_negative}
 use Rattle.std.specs.Ordering.{int_eq}

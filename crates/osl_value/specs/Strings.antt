@@ -1,8 +1,8 @@
--- The operations on strings. A string stands here as the list of its bytes, an int as itself.
+-- The operations on strings (OSL specification, "String functions"). A string stands here as the list of its bytes, an int as itself.
 use Rattle.std.specs.Prelude.{ℕ, min, nat_eq, not, ℤ, pos, negsuc, ◌+ℤ◌, int_lt, if◌then◌else◌, List, ◌++◌, length, take, drop, slice_index}
 use Rattle.std.specs.List.{starts_with, ends_with}
 use Rattle.std.specs.Str.{bytes_eq}
-use Rattle.osl_value.specs.Numbers.{truth, count_of}
+use Rattle.osl_value.specs.Numbers.{wrapped, truth, count_of}
 use Rattle.osl_value.specs.Types.{longest_text}
 
 abbrev pub eq_strings : List ℕ → List ℕ → ℤ
@@ -15,8 +15,9 @@ neq_strings s t = truth (not (bytes_eq s t))
 abbrev pub concat : List ℕ → List ℕ → List ℕ
 concat s t = take longest_text (s ++ t)
 
+-- the number of bytes
 abbrev pub strlen : List ℕ → ℤ
-strlen s = pos (length s)
+strlen s = wrapped (pos (length s))
 
 abbrev pub startswith : List ℕ → List ℕ → ℤ
 startswith s t = truth (starts_with nat_eq s t)
@@ -27,7 +28,7 @@ endswith s t = truth (ends_with nat_eq s t)
 -- where a part of a string begins: a start below 0 counts from the string's end, and then it is moved into the string
 abbrev pub begin_of : List ℕ → ℤ → ℕ
 begin_of s start =
-    let from = if int_lt start (pos 0) then start +ℤ strlen s else start in
+    let from = if int_lt start (pos 0) then start +ℤ pos (length s) else start in
     min (count_of from) (length s)
 
 -- at most so many bytes from there on, and none for a count below 0
@@ -36,5 +37,5 @@ substr s start count = take (count_of count) (drop (begin_of s start) s)
 
 -- the byte at a place, and 0 where the string has no such place
 abbrev pub getchar : List ℕ → ℤ → ℤ
-getchar s (pos i) = pos (slice_index s i)
+getchar s (pos i) = wrapped (pos (slice_index s i))
 getchar s (negsuc i) = pos 0

@@ -1,8 +1,20 @@
--- Types, and what a value of a type holds.
-use Rattle.std.specs.Prelude.{ℕ, ◌*◌, ◌==◌, Bool, true, false, ◌&&◌, if◌then◌else◌}
+-- Types, and what a value of a type holds (OSL specification, "Data types").
+use Rattle.std.specs.Prelude.{codes, List, ℕ, ◌*◌, ◌==◌, Bool, true, false, ◌&&◌, if◌then◌else◌}
 use Rattle.osl_value.specs.declared.types.Base.{Base}
 use Rattle.osl_value.specs.declared.types.Base.TheVariants.{Int, Float, Color, Point, Vector, Normal, Matrix, Str, Closure}
 use Rattle.osl_value.specs.declared.types.Ty.{Ty}
+
+-- the words of a type in the language
+abbrev pub base_name : Base → List ℕ
+base_name Int = codes "int"
+base_name Float = codes "float"
+base_name Color = codes "color"
+base_name Point = codes "point"
+base_name Vector = codes "vector"
+base_name Normal = codes "normal"
+base_name Matrix = codes "matrix"
+base_name Str = codes "string"
+base_name Closure = codes "closure color"
 
 abbrev pub is_triple : Base → Bool
 is_triple Int = false

@@ -5,7 +5,7 @@ use crate::memory::Memory;
 use crate::text::Text;
 use std::marker::Model;
 
-/// A closure primitive.
+/// A closure primitive (OSL specification, "Material closures").
 #[derive(Clone, Copy, Debug, PartialEq, Eq)]
 pub enum Primitive {
     Emission,

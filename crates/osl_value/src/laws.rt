@@ -1,6 +1,6 @@
 //! Laws of the definitions, each the contract of a function.
 
-ghost use Rattle.osl_value.specs.Laws.{NamesDiffer, IntsGiveInts, FloatsGiveFloats, WritesItsType, CopiesItsType, FloatsKeep, IntsKeep};
+ghost use Rattle.osl_value.specs.Laws.{NamesDiffer, IntsGiveInts, FloatsGiveFloats, WritesItsType, CopiesItsType, GivesValues, FloatsKeep, IntsKeep, ClosuresKeep};
 
 /// No two operations have one name, so `from_name` gives back the operation whose `name` it reads.
 pub fn names_differ()
@@ -23,6 +23,11 @@ pub fn writes_its_type()
     ensures { WritesItsType }
 {}
 
+/// On values it gives a value: its counts fit its type, and its numbers are in range.
+pub fn gives_values()
+    ensures { GivesValues }
+{}
+
 /// An assignment to a variable of the same type is a copy.
 pub fn copies_its_type()
     ensures { CopiesItsType }
@@ -36,4 +41,9 @@ pub fn floats_keep()
 /// 0 and 1 leave an int as it was, or make it 0.
 pub fn ints_keep()
     ensures { IntsKeep }
+{}
+
+/// A factor of 1 leaves a closure as it was.
+pub fn closures_keep()
+    ensures { ClosuresKeep }
 {}

@@ -1,6 +1,7 @@
 use crate::fx::Fx;
 
-/// What the renderer gives for the globals of the same names at one point.
+/// What the renderer gives for the globals of the same names at one point (OSL specification,
+/// "Global variables").
 #[derive(Clone, Copy, Debug)]
 pub struct Point {
     /// The position.

@@ -297,6 +297,9 @@ fn operations_have_names(rt: HostRuntime) {
     assert!(rt; OpName::While.is_control() && !OpName::Mul.is_control());
     assert!(rt; OpName::AAssign.updates() && !OpName::ARef.updates());
     assert!(rt; Primitive::OrenNayar.name() == "oren_nayar");
+    assert!(rt;
+        Ty::only(Base::Str).base.name() == "string" && Base::Closure.name() == "closure color"
+    );
 }
 
 fn made(ty: Ty, nums: Vec<i64>, texts: Vec<Text>) -> bool {

@@ -1,7 +1,7 @@
 ghost use Rattle.std.specs.Prelude.{◌≡◌, ◌≢◌, ◌↔◌, IsTrue};
-ghost use Rattle.osl_value.specs.Types.{is_triple, element_count, number_count, text_count};
+ghost use Rattle.osl_value.specs.Types.{base_name, only, is_triple, element_count, number_count, text_count};
 
-/// What an element of a type is made of.
+/// What an element of a type is made of (OSL specification, "Data types").
 #[derive(Clone, Copy, Debug, PartialEq, Eq)]
 pub enum Base {
     Int,
@@ -25,6 +25,23 @@ pub struct Ty {
 }
 
 impl Base {
+    /// The type's words in the language; `closure color` are two.
+    pub fn name(self) -> &'static str
+        ensures { result.now ≡ base_name self }
+    {
+        match self {
+            Base::Int => "int",
+            Base::Float => "float",
+            Base::Color => "color",
+            Base::Point => "point",
+            Base::Vector => "vector",
+            Base::Normal => "normal",
+            Base::Matrix => "matrix",
+            Base::Str => "string",
+            Base::Closure => "closure color",
+        }
+    }
+
     /// Whether it is `color`, `point`, `vector` or `normal`, which are three floats each.
     pub fn is_triple(self) -> bool
         ensures { result ≡ is_triple self }
@@ -37,6 +54,13 @@ impl Base {
 }
 
 impl Ty {
+    /// The type that is this base type and no array.
+    pub fn only(base: Base) -> Ty
+        ensures { result ≡ only base }
+    {
+        Ty { base, len: 0 }
+    }
+
     /// How many elements a value has: the array's length, or 1.
     pub fn element_count(self) -> usize
         ensures { result ≡ element_count self }
