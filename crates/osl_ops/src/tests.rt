@@ -14,6 +14,9 @@ fn arithmetic_on_ints(rt: HostRuntime) {
         ints(OpName::Div, 7, 0),
         ints(OpName::IRem, -7, 2),
         ints(OpName::IRem, 7, 0),
+        ints(OpName::IRem, i32::MIN, -1),
+        ints(OpName::Neg, -3, 0),
+        ints(OpName::Abs, -3, 0),
         ints(OpName::Abs, i32::MIN, 0),
     ];
     assert_eq!(rt;
@@ -27,6 +30,9 @@ fn arithmetic_on_ints(rt: HostRuntime) {
             0,
             -1,
             0,
+            0,
+            3,
+            3,
             i32::MIN
         ]
     );
@@ -50,7 +56,8 @@ fn bits_of_ints(rt: HostRuntime) {
 #[test]
 fn comparisons_of_ints(rt: HostRuntime) {
     let found = [
-        ints(OpName::Not, 2, 0),
+        ints(OpName::Not, 0, 0),
+        ints(OpName::Not, 7, 0),
         ints(OpName::Eq, 3, 3),
         ints(OpName::Neq, 3, 3),
         ints(OpName::Lt, -1, 0),
@@ -60,7 +67,7 @@ fn comparisons_of_ints(rt: HostRuntime) {
         ints(OpName::Min, -3, 2),
         ints(OpName::Max, -3, 2),
     ];
-    assert_eq!(rt; found, [0, 1, 0, 1, 0, 1, 0, -3, 2]);
+    assert_eq!(rt; found, [1, 0, 1, 0, 1, 0, 1, 0, -3, 2]);
 }
 
 /// Three floats of so many tenths.
