@@ -1,0 +1,23 @@
+use Rattle.std.proofs.Common.{rules, arith}
+use Rattle.std.proofs.lemmas.Grind.{common_steps}
+use Rattle.osl_tree.specs.FileReading.{fields_from}
+use Rattle.osl_parse.proofs.Turns.{one_more, no_more}
+use Rattle.osl_parse.proofs.file.fields.Goals as goal
+
+pub loop-turn-preserved : goal.loop-turn-preserved
+unfolding fields_from
+loop-turn-preserved c =
+    let e = one_more (λ n. fields_from n c.loop-turn.fields c.loop-turn.height c.loop-turn.tokens) _ c.loop-turn._turn c.loop-turn-test.true c.loop-turn.invariant in
+    first_of (search rules, grind (arith, common_steps))
+
+pub returns-then-eat : goal.returns-then-eat
+unfolding fields_from
+returns-then-eat c =
+    let e = one_more (λ n. fields_from n c.loop-turn.fields c.loop-turn.height c.loop-turn.tokens) _ c.loop-turn._turn c.loop-turn-test.true c.loop-turn.invariant in
+    first_of (search rules, grind (arith, common_steps))
+
+pub returns : goal.returns
+unfolding fields_from
+returns c =
+    let e = no_more (λ n. fields_from n c.loop-turn.fields c.loop-turn.height c.loop-turn.tokens) _ c.loop-turn._turn c.loop-turn-test.false c.loop-turn.invariant in
+    first_of (search rules, grind (arith, common_steps))

@@ -1,0 +1,4 @@
+pub mod Reads
+pub mod Within
+pub mod Bytes
+pub mod Nests
