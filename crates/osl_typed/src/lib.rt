@@ -1,13 +1,29 @@
-//! The typed tree of a shader, and its meaning: what a layer gives, run from its source.
+//! The typed tree of a source, and what it means: what a layer gives, run from its source.
 //!
-//! The tree has each name tied to its declaration. Today it has float parameters, sums and assignments alone.
-//! The meaning is a function of the tree: an expression has a value in an environment, an assignment makes a
-//! new one, and a layer's run starts where the parameters hold their defaults. The definitions are in
-//! `specs/`: `Tree` says which trees are tied, `Source` what they mean.
+//! The tree has each name tied to its declaration, each call to its function, and each promotion written in. A
+//! value is the list of its leaves, and a run goes from state to state. The definitions are in `specs/`: `Typing`,
+//! `BodyTyping` and `FileTyping` say which typed tree a syntax tree has, `Expressions`, `Statements` and `SourceRun`
+//! what it means, and `Sizes` how much code it may become. The small form that runs today has a tree (`tree`) and
+//! a meaning (`specs/Tree`, `specs/Source`) of its own.
 #![tactic(auto)]
 
+pub mod expr;
+pub mod found;
+pub mod laws;
+mod measure;
+pub mod shader;
+pub mod sizes;
+pub mod stmt;
+mod tables;
 pub mod tree;
+pub mod types;
+pub mod whole;
 
+pub use expr::{Argument, Part, Root, Step, TypedExpr};
+pub use found::{Binding, Callee, Form, Found};
+pub use shader::{TypedDatum, TypedFunction, TypedParam, TypedShader, TypedStructure};
+pub use sizes::Sizes;
+pub use stmt::{Declared, TypedForStart, TypedInit, TypedStmt};
 pub use tree::{Assignment, Expr, OpName, Param, Typed, find_output, find_param};
 
 #[cfg(test)]
