@@ -1,0 +1,17 @@
+pub mod Allowed
+pub mod CodeRun
+pub mod Faults
+pub mod Holding
+pub mod Lasting
+pub mod Names
+pub mod Nesting
+pub mod Ops
+pub mod Ranges
+pub mod Refusal
+pub mod Run
+pub mod Sections
+pub mod Steps
+pub mod Symbols
+pub mod Valid
+pub mod Walk
+pub mod Walked

@@ -1,0 +1,31 @@
+use crate::list::ListOf;
+use crate::op::{Op, Section};
+use crate::symbol::{Meta, Symbol};
+use osl_value::Text;
+
+/// The kind of a shader (OSL specification, "Shader types").
+#[derive(Clone, Copy, Debug, PartialEq, Eq)]
+pub enum ShaderKind {
+    Surface,
+    Displacement,
+    Volume,
+    /// A shader of any use.
+    Shader,
+}
+
+/// Code as it stands in a text, valid or not.
+#[derive(Debug, Drop)]
+pub struct Raw {
+    pub kind: ShaderKind,
+    pub name: Text,
+
+    /// The shader's own metadata.
+    pub metas: ListOf<Meta>,
+
+    /// The symbols, parameters first.
+    pub symbols: ListOf<Symbol>,
+
+    /// The sections of parameters, in the parameters' order, and then that of the body.
+    pub sections: ListOf<Section>,
+    pub ops: ListOf<Op>,
+}
