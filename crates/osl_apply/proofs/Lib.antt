@@ -1,0 +1,13 @@
+pub mod Values
+pub mod Rules
+pub mod Componentwise
+pub mod Counts
+pub mod Forms
+pub mod Numbers
+pub mod Others
+pub mod Left
+pub mod Converting
+pub mod Special
+pub mod MatrixOps
+pub mod ArrayParts
+pub mod Holding

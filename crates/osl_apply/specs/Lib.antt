@@ -1,0 +1,3 @@
+pub mod Slots
+pub mod Operands
+pub mod Elements
