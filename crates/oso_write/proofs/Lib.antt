@@ -1,0 +1,3 @@
+pub mod Texts
+pub mod ValidParts
+pub mod Worked
