@@ -1,6 +1,6 @@
 pub mod Cutting
-pub mod Hex
 pub mod Ops
 pub mod Reports
 pub mod Tied
 pub mod Turns
+pub mod Verdicts

@@ -1,9 +1,8 @@
 -- How the steps of a job make its report.
-use Rattle.std.proofs.Common.{◌≡◌, ◌≢◌, ◌≤◌, ◌<◌, ◌+◌, ℕ, List, ◌∷◌, ◌++◌, length, take, drop, get_or, Option, Some, None, Err, refl, ap, sym, ◌∙◌, arith, add-one, Vec, inl, inr, subst, Bool}
-use Rattle.std.specs.Prelude.{codes}
+use Rattle.std.proofs.Common.{◌≡◌, ◌≢◌, ◌≤◌, ◌<◌, ◌+◌, ℕ, List, ◌∷◌, ◌++◌, length, take, drop, get_or, Option, Some, None, Err, refl, ap, sym, ◌∙◌, arith, add-one, Vec, subst, Bool}
+use Rattle.std.specs.Prelude.{codes, ◌==◌, if◌then◌else◌}
 use Rattle.std.specs.Global.{Global}
 use Rattle.std.specs.Io.KnownBytes.{Appends}
-use Rattle.std.proofs.lemmas.Bool.{lt-ltb, le-ltb}
 use Rattle.std.proofs.lemmas.List.{take-append-drop}
 use Rattle.std.proofs.lemmas.Grind.{flat_map-append}
 use Rattle.std.proofs.Math.Seq.{drop-cons}
@@ -20,7 +19,7 @@ use Rattle.osl_job.specs.declared.report.Report.{Report}
 use Rattle.osl_job.specs.declared.steps.Fetched.{Fetched}
 use Rattle.osl_job.specs.declared.steps.Fetched.TheVariants.{Bytes, Stops}
 use Rattle.osl_job.specs.Status.{code_of, refusal_code}
-use Rattle.osl_job.specs.Verdict.{AcceptedJob, out_text, Verdict, Refused, Accepted, line, status_of}
+use Rattle.osl_job.specs.Verdict.{AcceptedJob, out_text, Verdict, Refused, Accepted, line}
 use Rattle.osl_typed.specs.declared.tree.Param.{Param}
 use Rattle.osl_typed.specs.declared.tree.Typed.{Typed}
 use Rattle.osl_typed.specs.Tree.{output_named}
@@ -29,8 +28,12 @@ use Rattle.osl_job.specs.declared.text.Stop.TheVariants as stops
 use Rattle.osl_job.specs.Reader.{ReadsWhole}
 use Rattle.osl_job.specs.declared.group.Group.{Group}
 use Rattle.osl_job.specs.declared.words.Job.{Job}
-use Rattle.osl_job.specs.Plan.{after_output, plan_of, Plan, Read, Settled, verdict, with_file, ComesToRead}
-use Rattle.osl_job.specs.Run.{text_of, IsDone, IsRefusal, IsReadFault, IsReport, is_done, is_refused, is_fault, IsText, WritesFront, OverTold, ComesTo, Reports, IsRefused, IsShown, Fetches, FetchHasCause, HasCause, OnlyRead}
+use Rattle.osl_job.specs.declared.source.Source.{Source}
+use Rattle.osl_job.specs.Source.{IsSource}
+use Rattle.osl_job.specs.Plan.{after_output, plan_of, Plan, Read, Judge, Settled, IsVerdict, ComesToRead}
+use Rattle.osl_job.specs.Plan as plans
+use Rattle.osl_job.proofs.Verdicts.{some_verdict}
+use Rattle.osl_job.specs.Run.{text_of, IsDone, IsRefusal, IsReadFault, IsReport, is_done, is_refused, is_fault, IsText, IsStatus, WritesFront, OverTold, ComesTo, Reports, IsRefused, IsShown, Fetches, FetchesWithin, FetchHasCause, HasCause, OnlyRead}
 
 -- ---- printing
 
@@ -48,50 +51,50 @@ text_of-split lines i x h is =
 
 -- nothing is a front of each text
 pub nothing_written : (plan : Plan) (files : Files) (old : Option (List ℕ)) → WritesFront old old (IsText plan files)
-nothing_written plan files old = some_text (verdict plan files) refl
+nothing_written plan files old = let found = some_verdict plan files in some_text found.0 found.1
   where
-    some_text : (v : Verdict) → verdict plan files ≡ v → WritesFront old old (IsText plan files)
-    some_text (Refused w text) e =
-        (line text, (refusal_code w, is_refused w refl (record { refusal = text; refused = e; wrote = refl })), (0, omega arith, appends-nothing old))
-    some_text (Accepted job) e =
-        (out_text job, (0, is_done refl (subst (λ (x : Verdict). IsDone x (out_text job)) (sym e) refl)), (0, omega arith, appends-nothing old))
+    some_text : (v : Verdict) → IsVerdict files plan v → WritesFront old old (IsText plan files)
+    some_text (Refused w text) is =
+        (line text, (refusal_code w, is_refused w refl (record { refusal = text; refused = is; wrote = refl })), (0, omega arith, appends-nothing old))
+    some_text (Accepted job) is =
+        (out_text job, (0, is_done refl (record { job = job; accepted = is; shown = refl })), (0, omega arith, appends-nothing old))
 
 -- ---- one step
 
 pub settled_refused : (w : Refusal) (text : List ℕ) (files : Files) (r : Report) → IsRefused w text r → ComesTo (Settled (Refused w text)) files r
-settled_refused w text files r is = is_refused w (ap code_of is.status) (record { refusal = text; refused = refl; wrote = is.wrote })
+settled_refused w text files r is = is_refused w (ap code_of is.status) (record { refusal = text; refused = plans.settled (Refused w text); wrote = is.wrote })
 
 pub settled_accepted : (job : AcceptedJob) (files : Files) (r : Report) → IsShown job r → ComesTo (Settled (Accepted job)) files r
-settled_accepted job files r is = is_done (ap code_of is.status) is.wrote
+settled_accepted job files r is = is_done (ap code_of is.status) (record { job = job; accepted = plans.settled (Accepted job); shown = is.wrote })
 
--- a report of what goes on with a file's bytes is one of the job that reads it
-same_report : (plan rest : Plan) (files : Files) (s : ℕ) (text : List ℕ) → verdict plan files ≡ verdict rest files → ((name : List ℕ) → ComesToRead rest files name → ComesToRead plan files name)
-    → IsReport rest files s text → IsReport plan files s text
-same_report plan rest files s text e reads (is_done a b) = is_done a (subst (λ (v : Verdict). IsDone v text) (sym e) b)
-same_report plan rest files s text e reads (is_refused w a b) = is_refused w a (record { refusal = b.refusal; refused = e ∙ b.refused; wrote = b.wrote })
-same_report plan rest files s text e reads (is_fault a b) = is_fault a (record { name = b.name; reads = reads b.name b.reads; wrote = b.wrote })
-
-with_some : (name bytes : List ℕ) (limit : ℕ) (file : Option (List ℕ)) (next : List ℕ → Verdict) → file ≡ Some bytes → length bytes ≤ limit → with_file name limit file next ≡ next bytes
-with_some name bytes limit file next e h = rw (e, le-ltb limit (length bytes) h) refl
+-- a report of what is left of a plan is one of the plan
+same_report : (plan rest : Plan) (files : Files) (s : ℕ) (text : List ℕ) → ((v : Verdict) → IsVerdict files rest v → IsVerdict files plan v)
+    → ((name : List ℕ) → ComesToRead files name rest → ComesToRead files name plan) → IsReport rest files s text → IsReport plan files s text
+same_report plan rest files s text judges reads (is_done a b) = is_done a (record { job = b.job; accepted = judges (Accepted b.job) b.accepted; shown = b.shown })
+same_report plan rest files s text judges reads (is_refused w a b) = is_refused w a (record { refusal = b.refusal; refused = judges (Refused w b.refusal) b.refused; wrote = b.wrote })
+same_report plan rest files s text judges reads (is_fault a b) = is_fault a (record { name = b.name; reads = reads b.name b.reads; wrote = b.wrote })
 
 pub read_on : (name bytes : List ℕ) (limit : ℕ) (next : List ℕ → Plan) (files : Files) (r : Report) → files name ≡ Some bytes → length bytes ≤ limit → ComesTo (next bytes) files r → ComesTo (Read name limit next) files r
 read_on name bytes limit next files r e h c =
     same_report (Read name limit next) (next bytes) files (code_of r.status) (text_of r.lines.items)
-    (with_some name bytes limit (files name) (λ b. verdict (next b) files) e h) (λ other reads. inr (bytes, e, h, reads)) c
+    (λ v is. plans.read name bytes limit next v e h is) (λ other reads. plans.later name bytes limit next e h reads) c
+
+judge_on : (text : List ℕ) (source : Source) (next : Source → Plan) (files : Files) (r : Report) → IsSource text source → ComesTo (next source) files r → ComesTo (Judge text next) files r
+judge_on text source next files r is c =
+    same_report (Judge text next) (next source) files (code_of r.status) (text_of r.lines.items)
+    (λ v q. plans.judged text source next v is q) (λ other reads. plans.judged text source next is reads) c
 
 pub read_absent : (name : List ℕ) (limit : ℕ) (files : Files) (r : Report) → files name ≡ None → IsRefused why.Absent (name ++ codes ": absent") r → Fetches name limit files (Stops r)
 read_absent name limit files r e is next =
-    is_refused why.Absent (ap code_of is.status) (record { refusal = name ++ codes ": absent"; refused = ap (λ f. with_file name limit f (λ b. verdict (next b) files)) e; wrote = is.wrote })
+    is_refused why.Absent (ap code_of is.status) (record { refusal = name ++ codes ": absent"; refused = plans.absent name limit next e; wrote = is.wrote })
 
 pub read_large : (name : List ℕ) (limit : ℕ) (files : Files) (r : Report) → IsLonger (Some (files name)) limit → IsRefused why.TooLarge (name ++ codes ": too large") r → Fetches name limit files (Stops r)
 read_large name limit files r long is next =
-    is_refused why.TooLarge (ap code_of is.status) (record { refusal = name ++ codes ": too large"; refused = large; wrote = is.wrote })
-  where
-    large : verdict (Read name limit next) files ≡ Refused why.TooLarge (name ++ codes ": too large")
-    large = rw (long.1, lt-ltb limit (length long.0) long.2) refl
+    is_refused why.TooLarge (ap code_of is.status)
+    (record { refusal = name ++ codes ": too large"; refused = plans.too_large name long.0 limit next long.1 long.2; wrote = is.wrote })
 
 pub read_failed : (name : List ℕ) (limit : ℕ) (files : Files) (r : Report) → r.status ≡ status.ReadFault → text_of r.lines.items ≡ line (name ++ codes ": read fault") → Fetches name limit files (Stops r)
-read_failed name limit files r e w next = is_fault (ap code_of e) (record { name = name; reads = inl refl; wrote = w })
+read_failed name limit files r e w next = is_fault (ap code_of e) (record { name = name; reads = plans.first limit next; wrote = w })
 
 -- ---- steps behind one another
 
@@ -134,24 +137,42 @@ stops_reports name limit next told before now r f c = record { report = λ files
 
 -- a fetch after which the job goes on
 pub goes_on : (name : List ℕ) (limit : ℕ) (next : List ℕ → Plan) (rest : Plan) (told later : List ℕ → Told) (before mid now : Counts) (x y : Bool) (b : Vec ℕ Global) (r : Report)
-    → OverTold told (λ files. Fetches name limit files (Bytes b)) → OnlyRead told later before mid x y → next b.items ≡ rest → Reports rest later mid now r
+    → OverTold told (λ files. Fetches name limit files (Bytes b)) → length b.items ≤ limit → OnlyRead told later before mid x y → next b.items ≡ rest → Reports rest later mid now r
     → Reports (Read name limit next) told before now r
-goes_on name limit next rest told later before mid now x y b r f only is reports = record {
+goes_on name limit next rest told later before mid now x y b r f fits only is reports = record {
   report = λ files tells.
-      let got = f files tells in
-      read_on name b.items limit next files r got.0 got.1
+      read_on name b.items limit next files r (f files tells) fits
       (subst (λ (p : Plan). ComesTo p files r) (sym is) (reports.report files (λ n. only.files n ∙ tells n)));
   cause = cause_later (code_of r.status) before mid now only.later reports.cause;
   usage = reports.usage;
 }
 
-pub not_built_reports : (text : List ℕ) (told : List ℕ → Told) (before now : Counts) (r : Report) → IsRefused why.NotBuilt text r → Reports (Settled (Refused why.NotBuilt text)) told before now r
-not_built_reports text told before now r is =
-    let code : code_of r.status ≡ 11 = ap code_of is.status in
+-- a text that is judged, and the job goes on
+pub judges : (text : List ℕ) (source : Source) (next : Source → Plan) (rest : Plan) (told : List ℕ → Told) (before now : Counts) (r : Report)
+    → IsSource text source → next source ≡ rest → Reports rest told before now r → Reports (Judge text next) told before now r
+judges text source next rest told before now r is e reports = record {
+  report = λ files tells. judge_on text source next files r is (subst (λ (p : Plan). ComesTo p files r) (sym e) (reports.report files tells));
+  cause = reports.cause;
+  usage = reports.usage;
+}
+
+-- a refusal for what a file holds
+pub data IsOfContent : Refusal → Type 0 where
+  of_source : IsOfContent why.Source
+  of_form : IsOfContent why.NotBuilt
+
+no_count : (w : Refusal) → IsOfContent w → (refusal_code w ≢ 2) × (refusal_code w ≢ 6) × (refusal_code w ≢ 7) × (refusal_code w ≢ 10)
+no_count _ of_source = (λ e. omega arith, λ e. omega arith, λ e. omega arith, λ e. omega arith)
+no_count _ of_form = (λ e. omega arith, λ e. omega arith, λ e. omega arith, λ e. omega arith)
+
+pub content_reports : (w : Refusal) (text : List ℕ) (told : List ℕ → Told) (before now : Counts) (r : Report) → IsOfContent w → IsRefused w text r → Reports (Settled (Refused w text)) told before now r
+content_reports w text told before now r of is =
+    let code : code_of r.status ≡ refusal_code w = ap code_of is.status in
+    let n = no_count w of in
     record {
-      report = λ files tells. settled_refused why.NotBuilt text files r is;
-      cause = record { absent = λ e. absurd (omega (arith, code)); read_fault = λ e. absurd (omega (arith, code)); large = λ e. absurd (omega (arith, code)) };
-      usage = λ e. omega (arith, code);
+      report = λ files tells. settled_refused w text files r is;
+      cause = record { absent = λ e. absurd (n.1 (sym code ∙ e)); read_fault = λ e. absurd (n.2 (sym code ∙ e)); large = λ e. absurd (n.3 (sym code ∙ e)) };
+      usage = λ e. n.0 (sym code ∙ e);
     }
 
 pub shown_reports : (job : AcceptedJob) (told : List ℕ → Told) (before now : Counts) (r : Report) → IsShown job r → Reports (Settled (Accepted job)) told before now r
@@ -165,53 +186,41 @@ shown_reports job told before now r is =
 
 -- ---- the top
 
-pub complete_from_report : (plan : Plan) (files : Files) (s : ℕ) (text : List ℕ) → IsReport plan files s text → s ≢ 7 → s ≡ status_of (verdict plan files)
-complete_from_report plan files s text (is_done a b) n = done_status (verdict plan files) b
-  where
-    done_status : (v : Verdict) → IsDone v text → s ≡ status_of v
-    done_status (Refused w t) d = absurd d
-    done_status (Accepted job) d = a
-complete_from_report plan files s text (is_refused w a b) n = a ∙ ap status_of (sym b.refused)
+pub complete_from_report : (plan : Plan) (files : Files) (s : ℕ) (text : List ℕ) → IsReport plan files s text → s ≢ 7 → IsStatus plan files s
+complete_from_report plan files s text (is_done a b) n = record { verdict = Accepted b.job; judged = b.accepted; is = a }
+complete_from_report plan files s text (is_refused w a b) n = record { verdict = Refused w b.refusal; judged = b.refused; is = a }
 complete_from_report plan files s text (is_fault a b) n = absurd (n a)
-
-pub done_from_report : (plan : Plan) (files : Files) (s : ℕ) (text : List ℕ) → IsReport plan files s text → s ≡ 0 → IsDone (verdict plan files) text
-done_from_report plan files s text (is_done a b) e = b
-done_from_report plan files s text (is_refused w a b) e = absurd (not_zero w (sym a ∙ e))
-  where
-    not_zero : (w : Refusal) → refusal_code w ≡ 0 → ⊥
-    not_zero why.Usage e = omega arith
-    not_zero why.Absent e = omega arith
-    not_zero why.TooLarge e = omega arith
-    not_zero why.NotBuilt e = omega arith
-done_from_report plan files s text (is_fault a b) e = absurd (omega (arith, a, e))
-
-same_why : (w v : Refusal) → refusal_code w ≡ refusal_code v → w ≡ v
-same_why why.Usage why.Usage e = refl
-same_why why.Usage why.Absent e = absurd (omega arith)
-same_why why.Usage why.TooLarge e = absurd (omega arith)
-same_why why.Usage why.NotBuilt e = absurd (omega arith)
-same_why why.Absent why.Usage e = absurd (omega arith)
-same_why why.Absent why.Absent e = refl
-same_why why.Absent why.TooLarge e = absurd (omega arith)
-same_why why.Absent why.NotBuilt e = absurd (omega arith)
-same_why why.TooLarge why.Usage e = absurd (omega arith)
-same_why why.TooLarge why.Absent e = absurd (omega arith)
-same_why why.TooLarge why.TooLarge e = refl
-same_why why.TooLarge why.NotBuilt e = absurd (omega arith)
-same_why why.NotBuilt why.Usage e = absurd (omega arith)
-same_why why.NotBuilt why.Absent e = absurd (omega arith)
-same_why why.NotBuilt why.TooLarge e = absurd (omega arith)
-same_why why.NotBuilt why.NotBuilt e = refl
 
 code_range : (w : Refusal) → (refusal_code w ≢ 0) × (refusal_code w ≢ 7)
 code_range why.Usage = (λ e. omega arith, λ e. omega arith)
+code_range why.Source = (λ e. omega arith, λ e. omega arith)
 code_range why.Absent = (λ e. omega arith, λ e. omega arith)
 code_range why.TooLarge = (λ e. omega arith, λ e. omega arith)
 code_range why.NotBuilt = (λ e. omega arith, λ e. omega arith)
 
-pub refusal_from_report : (plan : Plan) (files : Files) (s : ℕ) (text : List ℕ) (w : Refusal) → IsReport plan files s text → s ≡ refusal_code w → IsRefusal w (verdict plan files) text
+pub done_from_report : (plan : Plan) (files : Files) (s : ℕ) (text : List ℕ) → IsReport plan files s text → s ≡ 0 → IsDone plan files text
+done_from_report plan files s text (is_done a b) e = b
+done_from_report plan files s text (is_refused w a b) e = absurd ((code_range w).0 (sym a ∙ e))
+done_from_report plan files s text (is_fault a b) e = absurd (omega (arith, a, e))
+
+-- no two refusals have one status
+of_code : ℕ → Refusal
+of_code n = if n == 2 then why.Usage else if n == 3 then why.Source else if n == 6 then why.Absent else if n == 10 then why.TooLarge else why.NotBuilt
+
+of_code_is : (w : Refusal) → of_code (refusal_code w) ≡ w
+unfolding of_code
+of_code_is why.Usage = refl
+of_code_is why.Source = refl
+of_code_is why.Absent = refl
+of_code_is why.TooLarge = refl
+of_code_is why.NotBuilt = refl
+
+same_why : (w v : Refusal) → refusal_code w ≡ refusal_code v → w ≡ v
+same_why w v e = sym (of_code_is w) ∙ ap of_code e ∙ of_code_is v
+
+pub refusal_from_report : (plan : Plan) (files : Files) (s : ℕ) (text : List ℕ) (w : Refusal) → IsReport plan files s text → s ≡ refusal_code w → IsRefusal w plan files text
 refusal_from_report plan files s text w (is_done a b) e = absurd ((code_range w).0 (sym e ∙ a))
-refusal_from_report plan files s text w (is_refused v a b) e = subst (λ (x : Refusal). IsRefusal x (verdict plan files) text) (same_why v w (sym a ∙ e)) b
+refusal_from_report plan files s text w (is_refused v a b) e = subst (λ (x : Refusal). IsRefusal x plan files text) (same_why v w (sym a ∙ e)) b
 refusal_from_report plan files s text w (is_fault a b) e = absurd ((code_range w).1 (sym e ∙ a))
 
 pub fault_from_report : (plan : Plan) (files : Files) (s : ℕ) (text : List ℕ) → IsReport plan files s text → s ≡ 7 → IsReadFault plan files text
@@ -229,12 +238,12 @@ stops_at n name limit next told before now f r p q got c =
     (subst (λ (y : Fetched). FetchHasCause before now y) q c)
 
 pub goes_on_at : (n name : List ℕ) (limit : ℕ) (next : List ℕ → Plan) (rest : Plan) (told later : List ℕ → Told) (before mid now : Counts) (x y : Bool) (f : Fetched) (b : Vec ℕ Global) (r : Report)
-    → n ≡ name → f ≡ Bytes b → OverTold told (λ files. Fetches n limit files f) → OnlyRead told later before mid x y → next b.items ≡ rest → Reports rest later mid now r
+    → n ≡ name → f ≡ Bytes b → OverTold told (λ files. Fetches n limit files f) → FetchesWithin limit f → OnlyRead told later before mid x y → next b.items ≡ rest → Reports rest later mid now r
     → Reports (Read name limit next) told before now r
-goes_on_at n name limit next rest told later before mid now x y f b r p q got only is reports =
+goes_on_at n name limit next rest told later before mid now x y f b r p q got fits only is reports =
     goes_on name limit next rest told later before mid now x y b r
     (λ files tells. subst (λ (z : List ℕ). Fetches z limit files (Bytes b)) p (subst (λ (w : Fetched). Fetches n limit files w) q (got files tells)))
-    only is reports
+    (subst (λ (w : Fetched). FetchesWithin limit w) q fits) only is reports
 
 pub refused_at : (w : Refusal) (n name ending : List ℕ) (r : Report) → n ≡ name → IsRefused w (n ++ ending) r → IsRefused w (name ++ ending) r
 refused_at w n name ending r p is = subst (λ (x : List ℕ). IsRefused w (x ++ ending) r) p is
@@ -257,3 +266,12 @@ job_report job other files r e c = subst (λ (x : Option Job). ComesTo (plan_of 
 
 pub none_read : {A : Type 0} → (read : Option A) (stop : Stop) → stop ≡ stops.NotBuilt → ReadsWhole {A = A} read (Err stop) → read ≡ None
 none_read {A} read stop e h = let P : Stop → Type 0 = λ s. ReadsWhole {A = A} read (Err s) in subst P e h
+
+-- a source is fetched and judged, and the job goes on
+pub source_at : (n name : List ℕ) (limit : ℕ) (next : Source → Plan) (told later : List ℕ → Told) (before mid now : Counts) (x y : Bool) (f : Fetched) (b : Vec ℕ Global) (text : List ℕ) (found source : Source) (r : Report)
+    → n ≡ name → f ≡ Bytes b → OverTold told (λ files. Fetches n limit files f) → FetchesWithin limit f → OnlyRead told later before mid x y
+    → text ≡ b.items → found ≡ source → IsSource text found → Reports (next source) later mid now r → Reports (Read name limit (λ t. Judge t next)) told before now r
+source_at n name limit next told later before mid now x y f b text found source r p q got fits only e d is reports =
+    goes_on_at n name limit (λ t. Judge t next) (Judge b.items next) told later before mid now x y f b r p q got fits only refl
+    (judges b.items source next (next source) later mid now r
+    (subst (λ (t : List ℕ). IsSource t source) e (subst (λ (s : Source). IsSource text s) d is)) refl reports)

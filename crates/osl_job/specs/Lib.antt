@@ -1,7 +1,8 @@
 pub mod Text
 pub mod Reader
-pub mod Numbers
+pub mod GroupText
 pub mod Small
+pub mod Source
 pub mod Code
 pub mod Words
 pub mod Status

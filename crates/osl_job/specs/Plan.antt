@@ -1,37 +1,52 @@
--- The files that a job reads, in order, and what follows from each.
-use Rattle.std.specs.Prelude.{◌≡◌, ◌≤◌, ◌⊎◌, ℕ, Bool, true, false, nat_lt, if◌then◌else◌, List, ◌++◌, length, codes, Option, Some, None}
+-- What a job reads, in order, and what follows from each.
+use Rattle.std.specs.Prelude.{◌≡◌, ◌<◌, ◌≤◌, ℕ, Bool, true, false, List, ◌++◌, length, codes, Option, Some, None}
 use Rattle.osl_store.specs.Files.{Files}
 use Rattle.osl_typed.specs.declared.tree.Typed.{Typed}
 use Rattle.osl_typed.specs.Tree.{output_named}
 use Rattle.osl_job.specs.declared.group.Group.{Group}
 use Rattle.osl_job.specs.declared.words.Job.{Job}
-use Rattle.osl_job.specs.declared.words.Job.TheVariants.{Shade, NotBuilt}
+use Rattle.osl_job.specs.declared.words.Job.TheVariants as jobs
+use Rattle.osl_job.specs.declared.report.Refusal.{Refusal}
 use Rattle.osl_job.specs.declared.report.Refusal.TheVariants as why
-use Rattle.osl_job.specs.Small.{small_shader, small_group, is_one_point}
+use Rattle.osl_job.specs.declared.source.Source.{Source}
+use Rattle.osl_job.specs.declared.source.Source.TheVariants.{NoTokens, NoTree, NotBuilt, Shader}
+use Rattle.osl_job.specs.GroupText.{small_group, is_one_point}
+use Rattle.osl_job.specs.Source.{IsSource}
 use Rattle.osl_job.specs.Verdict.{AcceptedJob, Verdict, Refused, Accepted}
 
--- A job reads a file of at most so many bytes and goes on with them, or its verdict is settled.
+-- A job reads a file of at most so many bytes and goes on with them; or it goes on with what a source's text is; or its verdict is settled.
 pub data Plan : Type 0 where
   Read : (name : List ℕ) (limit : ℕ) → (List ℕ → Plan) → Plan
+  Judge : (text : List ℕ) → (Source → Plan) → Plan
   Settled : Verdict → Plan
 
 -- ---- what becomes of a plan over given files
 
--- a file that is absent or too large is refused
-abbrev pub with_file : List ℕ → ℕ → Option (List ℕ) → (List ℕ → Verdict) → Verdict
-with_file name limit None next = Refused why.Absent (name ++ codes ": absent")
-with_file name limit (Some bytes) next =
-    if nat_lt limit (length bytes) then Refused why.TooLarge (name ++ codes ": too large") else next bytes
+-- The verdict on a plan: a file that is absent or too large is refused.
+pub data IsVerdict (files : Files) : Plan → Verdict → Type 0 where
+  settled : (v : Verdict) → IsVerdict files (Settled v) v
+  absent : (name : List ℕ) (limit : ℕ) (next : List ℕ → Plan)
+      → files name ≡ None
+      → IsVerdict files (Read name limit next) (Refused why.Absent (name ++ codes ": absent"))
+  too_large : (name bytes : List ℕ) (limit : ℕ) (next : List ℕ → Plan)
+      → files name ≡ Some bytes → limit < length bytes
+      → IsVerdict files (Read name limit next) (Refused why.TooLarge (name ++ codes ": too large"))
+  read : (name bytes : List ℕ) (limit : ℕ) (next : List ℕ → Plan) (v : Verdict)
+      → files name ≡ Some bytes → length bytes ≤ limit → IsVerdict files (next bytes) v
+      → IsVerdict files (Read name limit next) v
+  judged : (text : List ℕ) (source : Source) (next : Source → Plan) (v : Verdict)
+      → IsSource text source → IsVerdict files (next source) v
+      → IsVerdict files (Judge text next) v
 
-abbrev pub verdict : Plan → Files → Verdict
-verdict (Read name limit next) files = with_file name limit (files name) (λ bytes. verdict (next bytes) files)
-verdict (Settled v) files = v
-
--- The plan comes to read this file: no file that it reads before is refused.
-abbrev pub ComesToRead : Plan → Files → List ℕ → Type 0
-ComesToRead (Read first limit next) files name =
-    (name ≡ first) ⊎ ((bytes : List ℕ) × (files first ≡ Some bytes) × (length bytes ≤ limit) × ComesToRead (next bytes) files name)
-ComesToRead (Settled v) files name = ⊥
+-- The plan comes to read this file: no file that it reads before, and no source, is refused.
+pub data ComesToRead (files : Files) (name : List ℕ) : Plan → Type 0 where
+  first : (limit : ℕ) (next : List ℕ → Plan) → ComesToRead files name (Read name limit next)
+  later : (other bytes : List ℕ) (limit : ℕ) (next : List ℕ → Plan)
+      → files other ≡ Some bytes → length bytes ≤ limit → ComesToRead files name (next bytes)
+      → ComesToRead files name (Read other limit next)
+  judged : (text : List ℕ) (source : Source) (next : Source → Plan)
+      → IsSource text source → ComesToRead files name (next source)
+      → ComesToRead files name (Judge text next)
 
 -- ---- the plan of each job
 
@@ -42,8 +57,12 @@ source_limit = 1048576
 abbrev pub point_limit : ℕ
 point_limit = 16777216
 
+-- a file is refused: its name and then this are printed
+abbrev pub file_refused : Refusal → List ℕ → List ℕ → Plan
+file_refused why name text = Settled (Refused why (name ++ text))
+
 abbrev pub file_not_built : List ℕ → Plan
-file_not_built name = Settled (Refused why.NotBuilt (name ++ codes ": not built"))
+file_not_built name = file_refused why.NotBuilt name (codes ": not built")
 
 -- the file of a shader
 abbrev pub source_name : List ℕ → List ℕ
@@ -61,14 +80,17 @@ after_output group_file point_file group shader (Some output) =
     Read point_file point_limit (λ text.
     after_points point_file (record { shader = shader; layer = group.layer; param = group.param; output = output }) (is_one_point text))
 
-abbrev pub after_shader : (group_file point_file : List ℕ) → Group → Option Typed → Plan
-after_shader group_file point_file group None = file_not_built (source_name group.shader)
-after_shader group_file point_file group (Some shader) = after_output group_file point_file group shader (output_named shader.params group.param)
+-- A source is refused at the stage that it does not pass, `lex` or `syntax`.
+abbrev pub after_source : (group_file point_file : List ℕ) → Group → Source → Plan
+after_source group_file point_file group NoTokens = file_refused why.Source (source_name group.shader) (codes ": lex")
+after_source group_file point_file group NoTree = file_refused why.Source (source_name group.shader) (codes ": syntax")
+after_source group_file point_file group NotBuilt = file_not_built (source_name group.shader)
+after_source group_file point_file group (Shader shader) = after_output group_file point_file group shader (output_named shader.params group.param)
 
 abbrev pub after_group : (group_file point_file : List ℕ) → Option Group → Plan
 after_group group_file point_file None = file_not_built group_file
 after_group group_file point_file (Some group) =
-    Read (source_name group.shader) source_limit (λ text. after_shader group_file point_file group (small_shader text))
+    Read (source_name group.shader) source_limit (λ text. Judge text (after_source group_file point_file group))
 
 -- `shade` reads the group, its shader, and the points.
 abbrev pub shade_plan : (group_file point_file : List ℕ) → Plan
@@ -76,5 +98,5 @@ shade_plan group_file point_file = Read group_file source_limit (λ text. after_
 
 abbrev pub plan_of : Option Job → Plan
 plan_of None = Settled (Refused why.Usage (codes "usage"))
-plan_of (Some NotBuilt) = Settled (Refused why.NotBuilt (codes "not built"))
-plan_of (Some (Shade group points)) = shade_plan group points
+plan_of (Some jobs.NotBuilt) = Settled (Refused why.NotBuilt (codes "not built"))
+plan_of (Some (jobs.Shade group points)) = shade_plan group points

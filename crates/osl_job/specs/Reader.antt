@@ -65,10 +65,6 @@ mark c = λ ls. if sees_mark c ls then Some (tt, rest ls) else None
 abbrev pub eat_word : List ℕ → Reader Bool
 eat_word text = λ ls. Some (sees_word text ls, if sees_word text ls then rest ls else ls)
 
--- takes this mark, if it comes next
-abbrev pub eat_mark : ℕ → Reader Bool
-eat_mark c = λ ls. Some (sees_mark c ls, if sees_mark c ls then rest ls else ls)
-
 abbrev pub of_piece : {A : Type 0} → (List ℕ → Option A) → Option (List ℕ) → Option A
 of_piece f None = None
 of_piece f (Some text) = f text
@@ -81,18 +77,18 @@ found (Some x) after = Some (x, after)
 abbrev pub piece : {A : Type 0} → (List ℕ → Option A) → Reader A
 piece f = λ ls. found (of_piece f (piece_of ls)) (rest ls)
 
-abbrev pub is_end : List Lexeme → Bool
+abbrev pub is_end : {L : Type 0} → List L → Bool
 is_end [] = Bool.true
 is_end (l ∷ ls) = false
 
 -- what was read, if nothing is left
-abbrev pub ended : {A : Type 0} → Read A → Option A
+abbrev pub ended : {A L : Type 0} → Option (A × List L) → Option A
 ended None = None
 ended (Some p) = if is_end p.1 then Some p.0 else None
 
 -- ---- what a function that reads ensures: the outcome of the reading, unless memory runs out
 
-abbrev pub Reads : {A : Type 0} → Read A → Result A Stop → List Lexeme → Type 0
+abbrev pub Reads : {A L : Type 0} → Option (A × List L) → Result A Stop → List L → Type 0
 Reads read (Ok a) after = read ≡ Some (a, after)
 Reads read (Err NotBuilt) after = read ≡ None
 Reads read (Err Memory) after = Unit {0}

@@ -12,8 +12,8 @@ use Rattle.osl_job.specs.declared.report.Report.{Report}
 use Rattle.osl_job.specs.declared.steps.Fetched.{Fetched}
 use Rattle.osl_job.specs.declared.steps.Fetched.TheVariants.{Bytes, Stops}
 use Rattle.osl_job.specs.Status.{code_of, refusal_code, done, read_fault}
-use Rattle.osl_job.specs.Verdict.{AcceptedJob, Verdict, Refused, Accepted, IsOutText, line}
-use Rattle.osl_job.specs.Plan.{Plan, Read, verdict, ComesToRead}
+use Rattle.osl_job.specs.Verdict.{AcceptedJob, Verdict, Refused, Accepted, IsOutText, status_of, line}
+use Rattle.osl_job.specs.Plan.{Plan, Read, IsVerdict, ComesToRead}
 
 -- ---- over told files, and what is written
 
@@ -32,31 +32,38 @@ WritesFront old new P = (text : List ℕ) × P text × AppendsFront old new text
 -- ---- the texts of a run that nothing cuts short
 
 -- the job is accepted, and this is a text that it may print
-abbrev pub IsDone : Verdict → List ℕ → Type 0
-IsDone (Refused why refusal) text = ⊥
-IsDone (Accepted job) text = IsOutText job text
+pub record IsDone (plan : Plan) (files : Files) (text : List ℕ) : Type 0 where
+  pub job : AcceptedJob
+  pub accepted : IsVerdict files plan (Accepted job)
+  pub shown : IsOutText job text
 
 -- the job is refused for this reason, and this is the line
-pub record IsRefusal (why : Refusal) (v : Verdict) (text : List ℕ) : Type 0 where
+pub record IsRefusal (why : Refusal) (plan : Plan) (files : Files) (text : List ℕ) : Type 0 where
   pub refusal : List ℕ
-  pub refused : v ≡ Refused why refusal
+  pub refused : IsVerdict files plan (Refused why refusal)
   pub wrote : text ≡ line refusal
 
 -- a file that the job comes to read could not be read, and this is the line
 pub record IsReadFault (plan : Plan) (files : Files) (text : List ℕ) : Type 0 where
   pub name : List ℕ
-  pub reads : ComesToRead plan files name
+  pub reads : ComesToRead files name plan
   pub wrote : text ≡ line (name ++ codes ": read fault")
 
 -- the status and the text of a run that nothing cuts short
 pub data IsReport (plan : Plan) (files : Files) (status : ℕ) (text : List ℕ) : Type 0 where
-  is_done : status ≡ done → IsDone (verdict plan files) text → IsReport plan files status text
-  is_refused : (why : Refusal) → status ≡ refusal_code why → IsRefusal why (verdict plan files) text → IsReport plan files status text
+  is_done : status ≡ done → IsDone plan files text → IsReport plan files status text
+  is_refused : (why : Refusal) → status ≡ refusal_code why → IsRefusal why plan files text → IsReport plan files status text
   is_fault : status ≡ read_fault → IsReadFault plan files text → IsReport plan files status text
 
 -- a text of the job: what it may print, or the line of a refusal or of a read that failed
 abbrev pub IsText : Plan → Files → List ℕ → Type 0
 IsText plan files text = (status : ℕ) × IsReport plan files status text
+
+-- this is the status of the job's verdict
+pub record IsStatus (plan : Plan) (files : Files) (status : ℕ) : Type 0 where
+  pub verdict : Verdict
+  pub judged : IsVerdict files plan verdict
+  pub is : status ≡ status_of verdict
 
 -- ---- which counts rose
 
@@ -107,10 +114,15 @@ pub record IsRefused (why : Refusal) (text : List ℕ) (r : Report) : Type 0 whe
   pub status : r.status ≡ status.Refused why
   pub wrote : text_of r.lines.items ≡ line text
 
--- what a fetch of a file gives: its bytes within the limit, or the report of any job that begins by reading it
+-- what a fetch of a file gives: its bytes, or the report of any job that begins by reading it
 abbrev pub Fetches : List ℕ → ℕ → Files → Fetched → Type 0
-Fetches name limit files (Bytes bytes) = (files name ≡ Some bytes.items) × (length bytes.items ≤ limit)
+Fetches name limit files (Bytes bytes) = files name ≡ Some bytes.items
 Fetches name limit files (Stops r) = (next : List ℕ → Plan) → ComesTo (Read name limit next) files r
+
+-- the bytes that a fetch gives are within the limit
+abbrev pub FetchesWithin : ℕ → Fetched → Type 0
+FetchesWithin limit (Bytes bytes) = length bytes.items ≤ limit
+FetchesWithin limit (Stops r) = Unit {0}
 
 -- a fetch that ends the job has its cause
 abbrev pub FetchHasCause : Counts → Counts → Fetched → Type 0

@@ -1,7 +1,7 @@
 -- The numbers that the program ends with.
 use Rattle.std.specs.Prelude.{ℕ}
 use Rattle.osl_job.specs.declared.report.Refusal.{Refusal}
-use Rattle.osl_job.specs.declared.report.Refusal.TheVariants.{Usage, Absent, TooLarge, NotBuilt}
+use Rattle.osl_job.specs.declared.report.Refusal.TheVariants.{Usage, Source, Absent, TooLarge, NotBuilt}
 use Rattle.osl_job.specs.declared.report.Status.{Status}
 use Rattle.osl_job.specs.declared.report.Status.TheVariants.{Done, Refused, ReadFault}
 
@@ -20,6 +20,7 @@ no_memory = 9
 -- the status of a refusal
 abbrev pub refusal_code : Refusal → ℕ
 refusal_code Usage = 2
+refusal_code Source = 3
 refusal_code Absent = 6
 refusal_code TooLarge = 10
 refusal_code NotBuilt = 11

@@ -1,4 +1,4 @@
--- How the texts of a job are cut: bytes that stand together make a piece, and each byte that stands alone is a mark.
+-- How group and point texts are cut: bytes that stand together make a piece, and each byte that stands alone is a mark.
 use Rattle.std.specs.Prelude.{ℕ, suc, Bool, true, false, not, ◌&&◌, ◌||◌, ◌==◌, nat_le, if◌then◌else◌, List, [], ◌∷◌}
 use Rattle.osl_job.specs.declared.text.Form.{Form}
 use Rattle.osl_job.specs.declared.text.Form.TheVariants as form
@@ -30,10 +30,6 @@ ends_line (c ∷ cs) = c == 10
 
 -- ---- what a byte is for, with what stands behind it
 
--- In a shader's text letters, digits, `_` and points stand together: a word or a number. No two marks of the small form stand side by side where a longer mark of the language would begin, so each is one byte.
-abbrev pub shader_class : ℕ → Class
-shader_class c = if is_blank c then Blank else if is_word_byte c || is_point c then Joined else Alone
-
 -- In a group's text `;` stands alone, and `#` begins a comment.
 abbrev pub group_class : ℕ → Class
 group_class c = if is_blank c then Blank else if c == 35 then Comment else if c == 59 then Alone else Joined
@@ -45,7 +41,6 @@ point_class c after =
     else if c == 35 then Comment else Joined
 
 abbrev pub class_of : Form → ℕ → List ℕ → Class
-class_of form.Shader c after = shader_class c
 class_of form.Group c after = group_class c
 class_of form.Points c after = point_class c after
 

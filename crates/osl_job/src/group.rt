@@ -1,9 +1,8 @@
 ghost use Rattle.std.specs.Prelude.{◌≡◌};
 ghost use Rattle.osl_job.specs.Reader.{Reads, ReadsWhole, piece};
-ghost use Rattle.osl_job.specs.Small as spec;
+ghost use Rattle.osl_job.specs.GroupText as spec;
 
-use crate::names::is_name_in_group;
-use crate::numbers::split_point;
+use crate::names::{is_name, split_point};
 use crate::text::{Form, Stop, Text};
 use sqlite_items::Items;
 use std::alloc::Global;
@@ -48,12 +47,12 @@ fn two_statements(alloc: Global, text: &mut Text<'_>) -> Result<Group, Stop>
 }
 
 fn name(alloc: Global, text: &mut Text<'_>) -> Result<Items<u8>, Stop>
-    ensures { Reads (piece spec.name_in_group text.old) result text.new }
+    ensures { Reads (piece spec.name text.old) result text.new }
 {
     let Some(found) = text.first_piece() else {
         return Err(Stop::NotBuilt);
     };
-    if !is_name_in_group(found) {
+    if !is_name(found) {
         return Err(Stop::NotBuilt);
     }
     let name = Items::from_slice(alloc, found)?;
@@ -69,7 +68,7 @@ fn asked(alloc: Global, text: &mut Text<'_>, layer: &[u8]) -> Result<Items<u8>, 
         return Err(Stop::NotBuilt);
     };
     let (before, after) = split_point(found);
-    if before != layer || !is_name_in_group(after) {
+    if before != layer || !is_name(after) {
         return Err(Stop::NotBuilt);
     }
     let param = Items::from_slice(alloc, after)?;

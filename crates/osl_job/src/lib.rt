@@ -1,9 +1,10 @@
 //! The top call: a job of the program, from its words to the lines that it prints and the status that it ends with.
 //!
 //! Definitions in `specs/`: `Words` gives the job that words spell; `Plan` the files that a job reads, in order,
-//! and the verdict over given files; `Verdict` what may be printed of an accepted job; `Run` the words of the
-//! contract. `Text`, `Reader`, `Numbers` and `Small` are the small forms of shader, group and point texts that
-//! are built today, and `Code` what the ops do that a shader becomes. Readers and ops are private.
+//! and the verdict over given files; `Source` what a source's text is; `Verdict` what may be printed of an accepted
+//! job; `Run` the words of the contract. `Small` is the small form of shaders that is built today, `Text`, `Reader`
+//! and `GroupText` those of groups and points, and `Code` what the ops do that a shader becomes. Readers and ops are
+//! private.
 #![tactic(auto)]
 
 ghost use Rattle.std.specs.Prelude.{◌≡◌, ◌⊎◌, List, ℕ, map, string_bytes, None};
@@ -12,21 +13,22 @@ ghost use Rattle.osl_store.specs.Files.{SameFiles};
 ghost use Rattle.osl_job.specs.declared.report.Refusal.{Refusal};
 ghost use Rattle.osl_job.specs.Status.{done, read_fault, write_fault, no_memory, refusal_code};
 ghost use Rattle.osl_job.specs.Words.{job_of};
-ghost use Rattle.osl_job.specs.Plan.{plan_of, verdict};
-ghost use Rattle.osl_job.specs.Verdict.{status_of};
-ghost use Rattle.osl_job.specs.Run.{OverTold, Writes, WritesFront, IsDone, IsRefusal, IsReadFault, IsText, HasCause, NoFaultRose, StaysClean};
+ghost use Rattle.osl_job.specs.Plan.{plan_of};
+ghost use Rattle.osl_job.specs.Run.{OverTold, Writes, WritesFront, IsDone, IsRefusal, IsReadFault, IsText, IsStatus, HasCause, NoFaultRose, StaysClean};
 
 use osl_store::{PutError, Sink, Store};
 use std::alloc::Global;
 
 mod code;
 mod group;
+pub mod laws;
 mod names;
-mod numbers;
 mod report;
 mod shader;
+mod source;
 mod steps;
 mod text;
+mod tokens;
 mod words;
 
 use report::print;
@@ -41,9 +43,9 @@ const NO_MEMORY: u8 = 9;
 /// Does what the words ask for, and answers the status. All printing follows the work, and each printed line is
 /// one `put`.
 ///
-/// The status is 0 where the job is done; 2 where the words spell no job; 6 where a file is absent; 7 where a
-/// read failed; 8 where a put failed; 9 where memory was refused; 10 where a file is too large; 11 where the words
-/// or a file ask for a form that is not built yet.
+/// The status is 0 where the job is done; 2 where the words spell no job; 3 where a source has no tokens or no
+/// tree; 6 where a file is absent; 7 where a read failed; 8 where a put failed; 9 where memory was refused; 10
+/// where a file is too large; 11 where the words or a file ask for a form that is not built yet.
 pub fn run_plain<S: Store, K: Sink>(
     alloc: Global,
     words: &[String],
@@ -52,11 +54,11 @@ pub fn run_plain<S: Store, K: Sink>(
 ) -> u8
     // Over told files, at status 0 the job is accepted, and what was written is a text that it may print.
     ensures done { result ≡ done → OverTold (S.file store.old) (λ files.
-        Writes (K.written out.old) (K.written out.new) (IsDone (verdict (plan_of (job_of (map string_bytes words.now))) files))) }
+        Writes (K.written out.old) (K.written out.new) (IsDone (plan_of (job_of (map string_bytes words.now))) files)) }
 
     // A refusal is the verdict's, and exactly its line was written.
     ensures refused { (why : Refusal) → result ≡ refusal_code why → OverTold (S.file store.old) (λ files.
-        Writes (K.written out.old) (K.written out.new) (IsRefusal why (verdict (plan_of (job_of (map string_bytes words.now))) files))) }
+        Writes (K.written out.old) (K.written out.new) (IsRefusal why (plan_of (job_of (map string_bytes words.now))) files)) }
 
     // A read fault: exactly the line of a file that the job comes to read was written.
     ensures read_fault { result ≡ read_fault → OverTold (S.file store.old) (λ files.
@@ -76,7 +78,7 @@ pub fn run_plain<S: Store, K: Sink>(
     // Where no count of faults rose, the status is that of the verdict, unless memory was refused.
     ensures complete { NoFaultRose (S.counts store.old) (S.counts store.new) (K.faults out.old) (K.faults out.new) →
         OverTold (S.file store.old) (λ files.
-        (result ≡ no_memory) ⊎ (result ≡ status_of (verdict (plan_of (job_of (map string_bytes words.now))) files))) }
+        (result ≡ no_memory) ⊎ IsStatus (plan_of (job_of (map string_bytes words.now))) files result) }
 
     // No count of faults rises over a store and a sink of which no call fails.
     ensures clean { StaysClean (S.faultless store.old) (S.faultless store.new) (K.faultless out.old) (K.faultless out.new)

@@ -1,26 +1,20 @@
-ghost use Rattle.std.specs.Prelude.{◌≡◌, is_some};
-ghost use Rattle.osl_job.specs.Small as spec;
+//! Names in a group's text.
+
+ghost use Rattle.std.specs.Prelude.{◌≡◌, ◌≤◌, is_some, length};
+ghost use Rattle.std.specs.List.{before_first, after_first, position_or_len};
+ghost use Rattle.osl_job.specs.GroupText as spec;
+ghost use Rattle.osl_job.specs.Text.{is_point};
 
 use crate::text::{begins_word, is_word_byte};
 
-/// The longest name in a shader's text, in bytes.
-const IN_SHADER: usize = 32;
+/// The longest name, in bytes.
+const LONGEST_NAME: usize = 255;
 
-/// The longest name in a group's text, in bytes.
-const IN_GROUP: usize = 255;
-
-/// Whether a piece of a shader's text may name something.
-pub fn is_name_in_shader(text: &[u8]) -> bool
-    ensures { result ≡ is_some (spec.name_in_shader text.now) }
+/// Whether a piece of a text may name something.
+pub fn is_name(text: &[u8]) -> bool
+    ensures { result ≡ is_some (spec.name text.now) }
 {
-    is_word(text) && !is_reserved(text) && text.len() <= IN_SHADER
-}
-
-/// Whether a piece of a group's text may name something.
-pub fn is_name_in_group(text: &[u8]) -> bool
-    ensures { result ≡ is_some (spec.name_in_group text.now) }
-{
-    is_word(text) && text.len() <= IN_GROUP
+    is_word(text) && text.len() <= LONGEST_NAME
 }
 
 /// A letter or `_`, and then letters, digits and `_`.
@@ -39,51 +33,24 @@ fn are_word_bytes(text: &[u8]) -> bool
     text.iter().all(|byte| is_word_byte(*byte))
 }
 
-/// Whether the language keeps a word for itself.
-fn is_reserved(text: &[u8]) -> bool
-    ensures { result ≡ spec.is_reserved text.now }
+/// What stands before the first point, and what behind it.
+pub fn split_point(text: &[u8]) -> (&[u8], &[u8])
+    ensures before { result.0.now ≡ before_first is_point text.now }
+    ensures after { result.1.now ≡ after_first is_point text.now }
 {
-    is_type_word(text) || is_declaration_word(text) || is_statement_word(text)
+    let at = point_place(text);
+    (&text[..at], &text[(at + 1).min(text.len())..])
 }
 
-fn is_type_word(text: &[u8]) -> bool
-    ensures { result ≡ spec.is_type_word text.now }
+/// The place of the first point, or the length.
+fn point_place(text: &[u8]) -> usize
+    ensures place { result ≡ position_or_len is_point text.now }
+    ensures within { result ≤ length text.now }
 {
-    text == b"int".as_slice()
-        || text == b"float".as_slice()
-        || text == b"color".as_slice()
-        || text == b"point".as_slice()
-        || text == b"vector".as_slice()
-        || text == b"normal".as_slice()
-        || text == b"matrix".as_slice()
-        || text == b"string".as_slice()
-        || text == b"closure".as_slice()
-        || text == b"void".as_slice()
-}
-
-fn is_declaration_word(text: &[u8]) -> bool
-    ensures { result ≡ spec.is_declaration_word text.now }
-{
-    text == b"struct".as_slice()
-        || text == b"output".as_slice()
-        || text == b"surface".as_slice()
-        || text == b"displacement".as_slice()
-        || text == b"volume".as_slice()
-        || text == b"shader".as_slice()
-}
-
-fn is_statement_word(text: &[u8]) -> bool
-    ensures { result ≡ spec.is_statement_word text.now }
-{
-    text == b"if".as_slice()
-        || text == b"else".as_slice()
-        || text == b"while".as_slice()
-        || text == b"do".as_slice()
-        || text == b"for".as_slice()
-        || text == b"break".as_slice()
-        || text == b"continue".as_slice()
-        || text == b"return".as_slice()
-        || text == b"not".as_slice()
-        || text == b"and".as_slice()
-        || text == b"or".as_slice()
+    for (at, byte) in text.iter().enumerate() {
+        if *byte == b'.' {
+            return at;
+        }
+    }
+    text.len()
 }

@@ -16,6 +16,8 @@ use std::alloc::Global;
 pub enum Refusal {
     /// The words spell no job.
     Usage,
+    /// A source has no tokens, or no tree.
+    Source,
     /// A file is absent.
     Absent,
     /// A file is too large.
@@ -39,6 +41,7 @@ impl Refusal {
     {
         match self {
             Refusal::Usage => 2,
+            Refusal::Source => 3,
             Refusal::Absent => 6,
             Refusal::TooLarge => 10,
             Refusal::NotBuilt => 11,

@@ -1,18 +1,26 @@
+//! The small form of shaders that is built today, read from a source's tokens.
+
 ghost use Rattle.std.specs.Prelude.{◌≡◌, ◌+◌, ◌<◌, ◌≤◌, true, [], ◌∷◌, length, Some, IfOk, IfSome};
 ghost use Rattle.std.specs.List.{list_all};
+ghost use Rattle.osl_tree.specs.Lexemes.{lexemes};
+ghost use Rattle.osl_tree.specs.Parser.{first, take_as};
 ghost use Rattle.osl_typed.specs.Tree.{fits, assignment_fits, output_named, is_tied};
-ghost use Rattle.osl_job.specs.Numbers as numbers;
-ghost use Rattle.osl_job.specs.Reader.{Reads, ReadsWhole, OnlyMemory, piece};
+ghost use Rattle.osl_parse.specs.Within.{LieWithin};
+ghost use Rattle.osl_job.specs.Reader.{Reads, ReadsWhole, OnlyMemory};
 ghost use Rattle.osl_job.specs.Small as spec;
 ghost use Rattle.osl_job.specs.Small.{AreTied};
 
-use crate::names::is_name_in_shader;
-use crate::numbers::{float_literal, number_literal};
-use crate::text::{Form, Stop, Text};
+use crate::text::Stop;
+use crate::tokens::Tokens;
+use osl_tree::mark::{Keyword, Mark};
+use osl_tree::token::{Punct, Token};
 use osl_typed::{Assignment, Expr, OpName, Param, Typed, find_output, find_param};
 use osl_value::Fx;
 use sqlite_items::{Boxed, Items};
 use std::alloc::Global;
+
+/// The longest name, in bytes.
+const LONGEST_NAME: usize = 32;
 
 /// The most parameters behind the first.
 const MORE_PARAMS: u32 = 15;
@@ -23,82 +31,69 @@ const MORE_OPERANDS: u32 = 15;
 /// The most assignments.
 const ASSIGNMENTS: u32 = 64;
 
-/// The shader that a text of the small form spells.
-pub fn read_shader(alloc: Global, bytes: &[u8]) -> Result<Typed, Stop>
-    ensures read { ReadsWhole (spec.small_shader bytes.now) result }
+/// The shader that these tokens of the source spell.
+pub fn read_shader(alloc: Global, source: &[u8], tokens: &[Token]) -> Result<Typed, Stop>
+    requires { LieWithin source.now tokens.now }
+    ensures read { ReadsWhole (spec.small_shader (lexemes source.now tokens.now)) result }
     ensures tied { IfOk result (λ t. is_tied t ≡ true) }
     ensures few { IfOk result (λ t. length t.params ≤ 16) }
 {
-    let mut text = Text::new(Form::Shader, bytes);
-    let typed = shader(alloc, &mut text)?;
-    if text.is_end() {
+    let mut tokens = Tokens::new(source, tokens);
+    let typed = shader(alloc, &mut tokens)?;
+    if tokens.is_end() {
         Ok(typed)
     } else {
         Err(Stop::NotBuilt)
     }
 }
 
-fn shader(alloc: Global, text: &mut Text<'_>) -> Result<Typed, Stop>
-    ensures read { Reads (spec.shader text.old) result text.new }
+fn shader(alloc: Global, tokens: &mut Tokens<'_>) -> Result<Typed, Stop>
+    ensures read { Reads (spec.shader tokens.old) result tokens.new }
     ensures tied { IfOk result (λ t. is_tied t ≡ true) }
     ensures few { IfOk result (λ t. length t.params ≤ 16) }
 {
-    text.word(b"shader")?;
-    let name = name(alloc, text)?;
-    text.mark(b'(')?;
-    let params = params(alloc, text)?;
-    text.mark(b')')?;
-    text.mark(b'{')?;
-    let body = assignments(alloc, text, params.as_slice(), ASSIGNMENTS)?;
+    tokens.expect(Mark::Keyword(Keyword::Shader))?;
+    let name = new_name(alloc, tokens, &[])?;
+    tokens.expect(Mark::Punct(Punct::OpenParen))?;
+    let params = params(alloc, tokens)?;
+    tokens.expect(Mark::Punct(Punct::CloseParen))?;
+    tokens.expect(Mark::Punct(Punct::OpenBrace))?;
+    let body = assignments(alloc, tokens, params.as_slice(), ASSIGNMENTS)?;
     Ok(Typed { name, params, body })
 }
 
-fn name(alloc: Global, text: &mut Text<'_>) -> Result<Items<u8>, Stop>
-    ensures { Reads (piece spec.name_in_shader text.old) result text.new }
-{
-    let Some(found) = text.first_piece() else {
-        return Err(Stop::NotBuilt);
-    };
-    if !is_name_in_shader(found) {
-        return Err(Stop::NotBuilt);
-    }
-    let name = Items::from_slice(alloc, found)?;
-    text.skip();
-    Ok(name)
-}
-
 /// One parameter, or several behind one another with commas.
-fn params(alloc: Global, text: &mut Text<'_>) -> Result<Items<Param>, Stop>
-    ensures read { Reads (spec.params text.old) result text.new }
+fn params(alloc: Global, tokens: &mut Tokens<'_>) -> Result<Items<Param>, Stop>
+    ensures read { Reads (spec.parameters tokens.old) result tokens.new }
     ensures tied { IfOk result AreTied }
     ensures few { IfOk result (λ params. length params ≤ 16) }
 {
-    let first = param(alloc, text, &[])?;
+    let first = param(alloc, tokens, &[])?;
     let mut params = Items::new(alloc);
     params.push(first)?;
-    Ok(more_params(alloc, text, MORE_PARAMS, params)?)
+    Ok(more_params(alloc, tokens, MORE_PARAMS, params)?)
 }
 
 /// Parameters behind the first ones, so many more at most.
 #[tactic(auto, unfolding(crate::specs::Small::more_params))]
 fn more_params(
     alloc: Global,
-    text: &mut Text<'_>,
+    tokens: &mut Tokens<'_>,
     room: u32,
     first: Items<Param>,
 ) -> Result<Items<Param>, Stop>
     requires fits { length first + room ≤ 16 }
     requires tied { AreTied first }
-    ensures read { Reads (spec.more_params room first text.old) result text.new }
+    ensures read { Reads (spec.more_params room first tokens.old) result tokens.new }
     ensures tied { IfOk result AreTied }
     ensures few { IfOk result (λ params. length params ≤ 16) }
 {
     let mut params = first;
     for _turn in 0..room {
-        if !text.eat_mark(b',') {
+        if !tokens.eat(Mark::Punct(Punct::Comma)) {
             return Ok(params);
         }
-        match param(alloc, text, params.as_slice()) {
+        match param(alloc, tokens, params.as_slice()) {
             Ok(next) => params.push(next)?,
             Err(stop) => return Err(stop),
         }
@@ -107,16 +102,16 @@ fn more_params(
 }
 
 /// A parameter behind those before it.
-fn param(alloc: Global, text: &mut Text<'_>, before: &[Param]) -> Result<Param, Stop>
+fn param(alloc: Global, tokens: &mut Tokens<'_>, before: &[Param]) -> Result<Param, Stop>
     requires { length before.now ≤ 16 }
-    ensures read { Reads (spec.param before.now text.old) result text.new }
+    ensures read { Reads (spec.param before.now tokens.old) result tokens.new }
     ensures tied { IfOk result (λ p. AreTied (p ∷ [])) }
 {
-    let output = text.eat_word(b"output");
-    text.word(b"float")?;
-    let name = new_name(alloc, text, before)?;
-    text.mark(b'=')?;
-    let value = number(text)?;
+    let output = tokens.eat(Mark::Keyword(Keyword::Output));
+    tokens.expect(Mark::Keyword(Keyword::Float))?;
+    let name = new_name(alloc, tokens, before)?;
+    tokens.expect(Mark::Punct(Punct::Assign))?;
+    let value = number(tokens)?;
     Ok(Param {
         name,
         output,
@@ -125,31 +120,28 @@ fn param(alloc: Global, text: &mut Text<'_>, before: &[Param]) -> Result<Param, 
 }
 
 /// A name that no parameter before it has.
-fn new_name(alloc: Global, text: &mut Text<'_>, before: &[Param]) -> Result<Items<u8>, Stop>
+fn new_name(alloc: Global, tokens: &mut Tokens<'_>, before: &[Param]) -> Result<Items<u8>, Stop>
     requires { length before.now ≤ 16 }
-    ensures { Reads (piece (spec.new_name before.now) text.old) result text.new }
+    ensures { Reads (spec.named (spec.new_name before.now) tokens.old) result tokens.new }
 {
-    let Some(found) = text.first_piece() else {
+    let Some(found) = tokens.name() else {
         return Err(Stop::NotBuilt);
     };
-    if find_param(before, found).is_some() || !is_name_in_shader(found) {
+    if find_param(before, found).is_some() || found.len() > LONGEST_NAME {
         return Err(Stop::NotBuilt);
     }
     let name = Items::from_slice(alloc, found)?;
-    text.skip();
+    tokens.skip();
     Ok(name)
 }
 
-fn number(text: &mut Text<'_>) -> Result<Fx, Stop>
-    ensures { Reads (piece numbers.number_literal text.old) result text.new }
+fn number(tokens: &mut Tokens<'_>) -> Result<Fx, Stop>
+    ensures { Reads (spec.token spec.number_of tokens.old) result tokens.new }
 {
-    let Some(found) = text.first_piece() else {
+    let Some(value) = tokens.number() else {
         return Err(Stop::NotBuilt);
     };
-    let Some(value) = number_literal(found) else {
-        return Err(Stop::NotBuilt);
-    };
-    text.skip();
+    tokens.skip();
     Ok(value)
 }
 
@@ -157,84 +149,84 @@ fn number(text: &mut Text<'_>) -> Result<Fx, Stop>
 #[tactic(auto, unfolding(crate::specs::Small::more_assignments))]
 fn assignments(
     alloc: Global,
-    text: &mut Text<'_>,
+    tokens: &mut Tokens<'_>,
     params: &[Param],
     room: u32,
 ) -> Result<Items<Assignment>, Stop>
     requires { length params.now ≤ 16 }
-    ensures read { Reads (spec.more_assignments params.now room [] text.old) result text.new }
+    ensures read { Reads (spec.more_assignments params.now room [] tokens.old) result tokens.new }
     ensures tied { IfOk result (λ body. list_all (assignment_fits (length params.now)) body ≡ true) }
 {
     let mut body = Items::new(alloc);
     for _turn in 0..room {
-        if text.eat_mark(b'}') {
+        if tokens.eat(Mark::Punct(Punct::CloseBrace)) {
             return Ok(body);
         }
-        let next = assignment(alloc, text, params)?;
+        let next = assignment(alloc, tokens, params)?;
         body.push(next)?;
     }
-    text.mark(b'}')?;
+    tokens.expect(Mark::Punct(Punct::CloseBrace))?;
     Ok(body)
 }
 
-fn assignment(alloc: Global, text: &mut Text<'_>, params: &[Param]) -> Result<Assignment, Stop>
+fn assignment(alloc: Global, tokens: &mut Tokens<'_>, params: &[Param]) -> Result<Assignment, Stop>
     requires { length params.now ≤ 16 }
-    ensures read { Reads (spec.assignment params.now text.old) result text.new }
+    ensures read { Reads (spec.assignment params.now tokens.old) result tokens.new }
     ensures tied { IfOk result (λ a. assignment_fits (length params.now) a ≡ true) }
 {
-    let target = target(text, params)?;
-    text.mark(b'=')?;
-    let value = sum(alloc, text, params)?;
-    text.mark(b';')?;
+    let target = target(tokens, params)?;
+    tokens.expect(Mark::Punct(Punct::Assign))?;
+    let value = sum(alloc, tokens, params)?;
+    tokens.expect(Mark::Punct(Punct::Semicolon))?;
     Ok(Assignment { target, value })
 }
 
-/// The number of an output parameter.
-fn target(text: &mut Text<'_>, params: &[Param]) -> Result<u32, Stop>
+/// The number of an output.
+fn target(tokens: &mut Tokens<'_>, params: &[Param]) -> Result<u32, Stop>
     requires { length params.now ≤ 16 }
-    ensures read { Reads (piece (output_named params.now) text.old) result text.new }
+    ensures read { Reads (spec.named (output_named params.now) tokens.old) result tokens.new }
     ensures within { IfOk result (λ number. number < length params.now) }
 {
-    let Some(found) = text.first_piece() else {
+    let Some(found) = tokens.name() else {
         return Err(Stop::NotBuilt);
     };
     let Some(target) = find_output(params, found) else {
         return Err(Stop::NotBuilt);
     };
-    text.skip();
+    tokens.skip();
     Ok(target)
 }
 
 /// Operands behind one another with signs, joined to the left.
-fn sum(alloc: Global, text: &mut Text<'_>, params: &[Param]) -> Result<Expr, Stop>
+fn sum(alloc: Global, tokens: &mut Tokens<'_>, params: &[Param]) -> Result<Expr, Stop>
     requires { length params.now ≤ 16 }
-    ensures read { Reads (spec.sum params.now text.old) result text.new }
+    ensures read { Reads (spec.sum params.now tokens.old) result tokens.new }
     ensures tied { IfOk result (λ e. fits (length params.now) e ≡ true) }
 {
-    let first = operand(text, params)?;
-    Ok(more_operands(alloc, text, params, MORE_OPERANDS, first)?)
+    let first = operand(tokens, params)?;
+    Ok(more_operands(alloc, tokens, params, MORE_OPERANDS, first)?)
 }
 
 /// Operands behind the first one, so many more at most.
 #[tactic(auto, unfolding(crate::specs::Small::more_operands))]
 fn more_operands(
     alloc: Global,
-    text: &mut Text<'_>,
+    tokens: &mut Tokens<'_>,
     params: &[Param],
     room: u32,
     first: Expr,
 ) -> Result<Expr, Stop>
     requires few { length params.now ≤ 16 }
     requires tied { fits (length params.now) first ≡ true }
-    ensures read { Reads (spec.more_operands params.now room first text.old) result text.new }
+    ensures read { Reads (spec.more_operands params.now room first tokens.old) result tokens.new }
     ensures tied { IfOk result (λ e. fits (length params.now) e ≡ true) }
 {
     let mut sum = first;
     for _turn in 0..room {
-        let Some(op) = eat_sign(text) else {
+        let Some(op) = eat_sign(tokens) else {
             return Ok(sum);
         };
-        let next = operand(text, params)?;
+        let next = operand(tokens, params)?;
         sum = joined(alloc, op, sum, next)?;
     }
     Ok(sum)
@@ -249,52 +241,46 @@ fn joined(alloc: Global, op: OpName, left: Expr, right: Expr) -> Result<Expr, St
 }
 
 /// Takes a sign, if one comes next.
-fn eat_sign(text: &mut Text<'_>) -> Option<OpName>
-    ensures { spec.eat_sign text.old ≡ Some (result, text.new) }
+fn eat_sign(tokens: &mut Tokens<'_>) -> Option<OpName>
+    ensures { take_as spec.sign_of tokens.old ≡ Some (result, tokens.new) }
 {
-    let op = sign_of(text.first_mark());
-    if op.is_some() {
-        text.skip();
-    }
-    op
+    let op = sign_of(tokens.mark()?)?;
+    tokens.skip();
+    Some(op)
 }
 
-fn sign_of(mark: Option<u8>) -> Option<OpName>
+fn sign_of(mark: Mark) -> Option<OpName>
     ensures { result ≡ spec.sign_of mark }
 {
     match mark {
-        Some(b'+') => Some(OpName::Add),
-        Some(b'-') => Some(OpName::Sub),
+        Mark::Punct(Punct::Plus) => Some(OpName::Add),
+        Mark::Punct(Punct::Minus) => Some(OpName::Sub),
         _ => None,
     }
 }
 
 /// A parameter, or a float.
-fn operand(text: &mut Text<'_>, params: &[Param]) -> Result<Expr, Stop>
+fn operand(tokens: &mut Tokens<'_>, params: &[Param]) -> Result<Expr, Stop>
     requires { length params.now ≤ 16 }
-    ensures read { Reads (spec.operand params.now text.old) result text.new }
+    ensures read { Reads (spec.token (spec.operand_of params.now) tokens.old) result tokens.new }
     ensures tied { IfOk result (λ e. fits (length params.now) e ≡ true) }
 {
-    let Some(found) = text.first_piece() else {
+    let Some(operand) = operand_of(tokens, params) else {
         return Err(Stop::NotBuilt);
     };
-    let Some(operand) = operand_of(params, found) else {
-        return Err(Stop::NotBuilt);
-    };
-    text.skip();
+    tokens.skip();
     Ok(operand)
 }
 
-fn operand_of(params: &[Param], text: &[u8]) -> Option<Expr>
+fn operand_of(tokens: &Tokens<'_>, params: &[Param]) -> Option<Expr>
     requires { length params.now ≤ 16 }
-    ensures value { result ≡ spec.operand_of params.now text.now }
+    ensures value { result ≡ spec.operand_of params.now (first tokens.now) }
     ensures tied { IfSome result (λ e. fits (length params.now) e ≡ true) }
 {
-    match find_param(params, text) {
-        Some(number) => Some(Expr::Var(number)),
-        None => match float_literal(text) {
-            Some(value) => Some(Expr::Const(value)),
-            None => None,
-        },
+    if let Some(name) = tokens.name() {
+        let number = find_param(params, name)?;
+        return Some(Expr::Var(number));
     }
+    let value = tokens.float()?;
+    Some(Expr::Const(value))
 }

@@ -1,9 +1,10 @@
 ghost use Rattle.std.specs.Prelude.{◌≡◌, ◌<◌, ◌≤◌, ◌↔◌, ◌++◌, List, ℕ, codes, map, string_bytes, None, Some, IfOk, length, true};
 ghost use Rattle.osl_decimal.specs.Canonical.{fx_text};
 ghost use Rattle.osl_typed.specs.Tree.{is_tied};
-ghost use Rattle.osl_job.specs.Plan.{after_group, after_shader, plan_of, shade_plan, source_name};
-ghost use Rattle.osl_job.specs.Run.{Fetches, FetchHasCause, HasCause, IsRefused, IsShown, OnlyRead, OverTold, Reports, ComesTo};
+ghost use Rattle.osl_job.specs.Plan.{after_group, after_source, plan_of, shade_plan, source_name};
+ghost use Rattle.osl_job.specs.Run.{Fetches, FetchesWithin, FetchHasCause, HasCause, IsRefused, IsShown, OnlyRead, OverTold, Reports, ComesTo};
 ghost use Rattle.osl_job.specs.declared.report.Refusal.{Refusal};
+ghost use Rattle.osl_job.specs.declared.source.Source.TheVariants as sources;
 ghost use Rattle.osl_job.specs.Status.{code_of};
 ghost use Rattle.osl_job.specs.Verdict.{line};
 ghost use Rattle.osl_job.specs.Words.{job_of};
@@ -11,7 +12,7 @@ ghost use Rattle.osl_job.specs.Words.{job_of};
 use crate::code::value_of;
 use crate::group::{Group, is_one_point, read_group};
 use crate::report::{Refusal, Report, Status};
-use crate::shader::read_shader;
+use crate::source::{Source, read_source};
 use crate::text::Stop;
 use crate::words::{Job, Name, read_words};
 use osl_decimal::write_fx;
@@ -79,15 +80,25 @@ fn with_group<S: Store>(
     ensures report { IfOk result (Reports (after_group group_file.now point_file.now (Some group.now)) (S.file store.old) (S.counts store.old) (S.counts store.new)) }
     ensures store { OnlyRead (S.file store.old) (S.file store.new) (S.counts store.old) (S.counts store.new) (S.faultless store.old) (S.faultless store.new) }
 {
-    let source = source_name(alloc, group.shader.as_slice())?;
-    match fetch(alloc, source.as_str(), SOURCE_LIMIT, store)? {
+    let name = source_name(alloc, group.shader.as_slice())?;
+    match fetch(alloc, name.as_str(), SOURCE_LIMIT, store)? {
         Fetched::Stops(report) => Ok(report),
-        Fetched::Bytes(text) => match read_shader(alloc, text.as_slice()) {
-            Ok(shader) => Ok(with_shader(alloc, group_file, point_file, group, &shader, store)?),
-            Err(Stop::NotBuilt) => Ok(not_built(alloc, source.as_str())?),
-            Err(Stop::Memory) => Err(Memory),
+        Fetched::Bytes(text) => match read_source(alloc, text.as_slice())? {
+            Source::NoTokens => Ok(refused_source(alloc, &name, b": lex")?),
+            Source::NoTree => Ok(refused_source(alloc, &name, b": syntax")?),
+            Source::NotBuilt => Ok(not_built(alloc, name.as_str())?),
+            Source::Shader(shader) => {
+                Ok(with_shader(alloc, group_file, point_file, group, &shader, store)?)
+            }
         },
     }
+}
+
+/// A source that is refused at this stage.
+fn refused_source(alloc: Global, file: &Name, stage: &[u8]) -> Result<Report, Memory>
+    ensures { IfOk result (IsRefused Refusal.Source (file.now ++ stage.now)) }
+{
+    Ok(refused(alloc, Refusal::Source, file.as_str().as_bytes(), stage)?)
 }
 
 /// Reads the points, where the asked parameter is an output, and goes on with them.
@@ -101,7 +112,7 @@ fn with_shader<S: Store>(
 ) -> Result<Report, Memory>
     requires tied { is_tied shader.now ≡ true }
     requires few { length shader.now.params ≤ 16 }
-    ensures report { IfOk result (Reports (after_shader group_file.now point_file.now group.now (Some shader.now)) (S.file store.old) (S.counts store.old) (S.counts store.new)) }
+    ensures report { IfOk result (Reports (after_source group_file.now point_file.now group.now (sources.Shader shader.now)) (S.file store.old) (S.counts store.old) (S.counts store.new)) }
     ensures store { OnlyRead (S.file store.old) (S.file store.new) (S.counts store.old) (S.counts store.new) (S.faultless store.old) (S.faultless store.new) }
 {
     let Some(output) = find_output(shader.params.as_slice(), group.param.as_slice()) else {
@@ -178,6 +189,7 @@ enum Fetched {
 /// Reads a file.
 fn fetch<S: Store>(alloc: Global, name: &str, limit: u32, store: &mut S) -> Result<Fetched, Memory>
     ensures fetched { IfOk result (λ f. OverTold (S.file store.old) (λ files. Fetches name.now limit files f)) }
+    ensures within { IfOk result (FetchesWithin limit) }
     ensures cause { IfOk result (FetchHasCause (S.counts store.old) (S.counts store.new)) }
     ensures store { OnlyRead (S.file store.old) (S.file store.new) (S.counts store.old) (S.counts store.new) (S.faultless store.old) (S.faultless store.new) }
 {

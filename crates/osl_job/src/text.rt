@@ -43,7 +43,6 @@ impl From<Memory> for Stop {
 /// The kinds of texts.
 #[derive(Clone, Copy, Debug, PartialEq, Eq)]
 pub enum Form {
-    Shader,
     Group,
     Points,
 }
@@ -97,18 +96,6 @@ fn is_blank(byte: u8) -> bool
     matches!(byte, b' ' | b'\t' | b'\n' | b'\r' | 12)
 }
 
-fn shader_class(byte: u8) -> Class
-    ensures { result ≡ spec.shader_class byte }
-{
-    if is_blank(byte) {
-        Class::Blank
-    } else if is_word_byte(byte) || byte == b'.' {
-        Class::Joined
-    } else {
-        Class::Alone
-    }
-}
-
 fn group_class(byte: u8) -> Class
     ensures { result ≡ spec.group_class byte }
 {
@@ -150,7 +137,6 @@ impl Form {
         ensures { result ≡ spec.class_of self byte after.now }
     {
         match self {
-            Form::Shader => shader_class(byte),
             Form::Group => group_class(byte),
             Form::Points => point_class(byte, after),
         }
@@ -281,17 +267,6 @@ impl<'a> Text<'a> {
         ensures { reader.eat_word text.now self.old ≡ Some (result, self.new) }
     {
         let sees = self.sees_word(text);
-        if sees {
-            self.skip();
-        }
-        sees
-    }
-
-    /// Takes a mark, if it comes next.
-    pub fn eat_mark(&mut self, mark: u8) -> bool
-        ensures { reader.eat_mark mark self.old ≡ Some (result, self.new) }
-    {
-        let sees = self.sees_mark(mark);
         if sees {
             self.skip();
         }

@@ -1,8 +1,8 @@
-use Rattle.std.proofs.Common.{◌∙◌, sym, map, string_bytes, inl, inr}
+use Rattle.std.proofs.Common.{ℕ, ◌∙◌, sym, subst, map, string_bytes, inl, inr}
 use Rattle.osl_job.specs.Status.{code_of}
 use Rattle.osl_job.specs.Words.{job_of}
 use Rattle.osl_job.specs.Plan.{plan_of}
-use Rattle.osl_job.specs.Run.{text_of}
+use Rattle.osl_job.specs.Run.{text_of, IsStatus}
 use Rattle.osl_job.proofs.Reports.{nothing_written, complete_from_report, done_from_report, refusal_from_report, fault_from_report}
 use Rattle.osl_job.proofs.run_plain.Goals as goal
 
@@ -35,7 +35,8 @@ returns-in-Ok-print-clause-usage_only g c none = inl (c.code.ensures ∙ c.in-Ok
 
 pub returns-in-Ok-print-clause-complete : goal.returns-in-Ok-print-clause-complete
 returns-in-Ok-print-clause-complete g c clean files tells =
-    inr (c.code.ensures ∙ complete_from_report _ files _ _ (c.in-Ok.ensures.report files tells) (λ seven. clean.reads (c.in-Ok.ensures.cause.read_fault seven)))
+    inr (subst (λ (s : ℕ). IsStatus (plan_of (job_of (map string_bytes c.args.words.now))) files s) (sym c.code.ensures)
+    (complete_from_report _ files _ _ (c.in-Ok.ensures.report files tells) (λ seven. clean.reads (c.in-Ok.ensures.cause.read_fault seven))))
 
 pub returns-in-Err-Fault-clause-cut_short : goal.returns-in-Err-Fault-clause-cut_short
 returns-in-Err-Fault-clause-cut_short g c cut files tells =

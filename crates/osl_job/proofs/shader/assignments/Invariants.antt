@@ -6,6 +6,6 @@ use Rattle.osl_job.proofs.shader.assignments.Given as goal
 
 abbrev pub invariant-loop-turn : goal.invariant-loop-turn
 invariant-loop-turn l = record {
-  read : more_assignments l.params l.room [] l.fn.text ≡ more_assignments l.params (l.room - l._turn) l.body l.text;
+  read : more_assignments l.params l.room [] l.fn.tokens ≡ more_assignments l.params (l.room - l._turn) l.body l.tokens;
   tied : list_all (assignment_fits (length l.params)) l.body ≡ true;
 }

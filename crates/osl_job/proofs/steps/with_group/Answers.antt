@@ -1,32 +1,51 @@
-use Rattle.std.proofs.Common.{◌∙◌, ap, sym, Some}
+use Rattle.std.proofs.Common.{◌∙◌, ap}
 use Rattle.std.specs.Prelude.{codes}
 use Rattle.osl_job.specs.declared.report.Refusal.TheVariants as why
-use Rattle.osl_job.specs.Small.{small_shader}
-use Rattle.osl_job.specs.Plan.{after_shader, source_name, file_not_built, source_limit}
-use Rattle.osl_job.proofs.Reports.{stops_at, goes_on_at, not_built_reports, refused_at, none_read}
+use Rattle.osl_job.specs.declared.source.Source.TheVariants.{NoTokens, NoTree, NotBuilt, Shader}
+use Rattle.osl_job.specs.Plan.{after_source, source_name, source_limit}
+use Rattle.osl_job.proofs.Reports.{stops_at, source_at, of_source, of_form, content_reports, refused_at}
 use Rattle.osl_job.proofs.steps.with_group.Goals as goal
 
 pub returns-in-Stops-clause-report : goal.returns-in-Stops-clause-report
 returns-in-Stops-clause-report g c =
     stops_at c.as_str.result.now (source_name c.args.group.now.shader) source_limit _ _ _ _ c.in_ok-report.field-0 c.in-Stops.report
-    (c.as_str.ensures ∙ c.in_ok-source.ensures ∙ ap source_name c.as_slice.ensures) c.in-Stops.is c.in_ok-report.ensures.fetched c.in_ok-report.ensures.cause
+    (c.as_str.ensures ∙ c.in_ok-name.ensures ∙ ap source_name c.as_slice.ensures) c.in-Stops.is c.in_ok-report.ensures.fetched c.in_ok-report.ensures.cause
 
-pub returns-in-Ok-clause-report : goal.returns-in-Ok-clause-report
-returns-in-Ok-clause-report g c =
-    goes_on_at c.as_str.result.now (source_name c.args.group.now.shader) source_limit _
-    (after_shader c.args.group_file.now c.args.point_file.now c.args.group.now (Some c.in-Ok.shader)) _ _ _ _ _ _ _ c.in_ok-report.field-0 c.in-Bytes.text c.in_ok-with_shader-in-Ok.field-0
-    (c.as_str.ensures ∙ c.in_ok-source.ensures ∙ ap source_name c.as_slice.ensures) c.in-Bytes.is c.in_ok-report.ensures.fetched c.in_ok-report.ensures.store
-    (ap (λ t. after_shader c.args.group_file.now c.args.point_file.now c.args.group.now (small_shader t)) (sym c.as_slice-in-Bytes.ensures.value)
-    ∙ ap (after_shader c.args.group_file.now c.args.point_file.now c.args.group.now) c.in-Ok.ensures.read)
-    c.in_ok-with_shader-in-Ok.ensures.report
+pub returns-in-NoTokens-clause-report : goal.returns-in-NoTokens-clause-report
+returns-in-NoTokens-clause-report g c =
+    let name = c.in_ok-name.ensures ∙ ap source_name c.as_slice.ensures in
+    source_at _ (source_name c.args.group.now.shader) source_limit (after_source c.args.group_file.now c.args.point_file.now c.args.group.now) _ _ _ _ _ _ _
+    c.in_ok-report.field-0 c.in-Bytes.text _ c.in_ok-read_source-in-Bytes.field-0 NoTokens c.in_ok-refused_source-in-NoTokens.field-0
+    (c.as_str.ensures ∙ name) c.in-Bytes.is c.in_ok-report.ensures.fetched c.in_ok-report.ensures.within c.in_ok-report.ensures.store
+    c.as_slice-in-Bytes.ensures.value c.in-NoTokens.is c.in_ok-read_source-in-Bytes.ensures.is
+    (content_reports why.Source _ _ _ _ c.in_ok-refused_source-in-NoTokens.field-0 of_source
+    (refused_at why.Source _ (source_name c.args.group.now.shader) (codes ": lex") _ name c.in_ok-refused_source-in-NoTokens.ensures))
 
-pub returns-in-Err-NotBuilt-clause-report : goal.returns-in-Err-NotBuilt-clause-report
-returns-in-Err-NotBuilt-clause-report g c =
-    goes_on_at c.as_str.result.now (source_name c.args.group.now.shader) source_limit _
-    (file_not_built (source_name c.args.group.now.shader)) _ _ _ _ _ _ _ c.in_ok-report.field-0 c.in-Bytes.text c.in_ok-not_built-in-Err-NotBuilt.field-0
-    (c.as_str.ensures ∙ c.in_ok-source.ensures ∙ ap source_name c.as_slice.ensures) c.in-Bytes.is c.in_ok-report.ensures.fetched c.in_ok-report.ensures.store
-    (ap (λ t. after_shader c.args.group_file.now c.args.point_file.now c.args.group.now (small_shader t)) (sym c.as_slice-in-Bytes.ensures.value)
-    ∙ ap (after_shader c.args.group_file.now c.args.point_file.now c.args.group.now) (none_read _ _ c.in-Err-NotBuilt.field-0-is c.in-Err-NotBuilt.ensures.read))
-    (not_built_reports _ _ _ _ c.in_ok-not_built-in-Err-NotBuilt.field-0
-    (refused_at why.NotBuilt _ (source_name c.args.group.now.shader) (codes ": not built") _ (c.as_str-in-Err-NotBuilt.ensures ∙ c.in_ok-source.ensures ∙ ap source_name c.as_slice.ensures)
-    c.in_ok-not_built-in-Err-NotBuilt.ensures))
+pub returns-in-NoTree-clause-report : goal.returns-in-NoTree-clause-report
+returns-in-NoTree-clause-report g c =
+    let name = c.in_ok-name.ensures ∙ ap source_name c.as_slice.ensures in
+    source_at _ (source_name c.args.group.now.shader) source_limit (after_source c.args.group_file.now c.args.point_file.now c.args.group.now) _ _ _ _ _ _ _
+    c.in_ok-report.field-0 c.in-Bytes.text _ c.in_ok-read_source-in-Bytes.field-0 NoTree c.in_ok-refused_source-in-NoTree.field-0
+    (c.as_str.ensures ∙ name) c.in-Bytes.is c.in_ok-report.ensures.fetched c.in_ok-report.ensures.within c.in_ok-report.ensures.store
+    c.as_slice-in-Bytes.ensures.value c.in-NoTree.is c.in_ok-read_source-in-Bytes.ensures.is
+    (content_reports why.Source _ _ _ _ c.in_ok-refused_source-in-NoTree.field-0 of_source
+    (refused_at why.Source _ (source_name c.args.group.now.shader) (codes ": syntax") _ name c.in_ok-refused_source-in-NoTree.ensures))
+
+pub returns-in-NotBuilt-clause-report : goal.returns-in-NotBuilt-clause-report
+returns-in-NotBuilt-clause-report g c =
+    let name = c.in_ok-name.ensures ∙ ap source_name c.as_slice.ensures in
+    source_at _ (source_name c.args.group.now.shader) source_limit (after_source c.args.group_file.now c.args.point_file.now c.args.group.now) _ _ _ _ _ _ _
+    c.in_ok-report.field-0 c.in-Bytes.text _ c.in_ok-read_source-in-Bytes.field-0 NotBuilt c.in_ok-not_built-in-NotBuilt.field-0
+    (c.as_str.ensures ∙ name) c.in-Bytes.is c.in_ok-report.ensures.fetched c.in_ok-report.ensures.within c.in_ok-report.ensures.store
+    c.as_slice-in-Bytes.ensures.value c.in-NotBuilt.is c.in_ok-read_source-in-Bytes.ensures.is
+    (content_reports why.NotBuilt _ _ _ _ c.in_ok-not_built-in-NotBuilt.field-0 of_form
+    (refused_at why.NotBuilt _ (source_name c.args.group.now.shader) (codes ": not built") _ (c.as_str-in-NotBuilt.ensures ∙ name) c.in_ok-not_built-in-NotBuilt.ensures))
+
+pub returns-clause-report : goal.returns-clause-report
+returns-clause-report g c =
+    let name = c.in_ok-name.ensures ∙ ap source_name c.as_slice.ensures in
+    source_at _ (source_name c.args.group.now.shader) source_limit (after_source c.args.group_file.now c.args.point_file.now c.args.group.now) _ _ _ _ _ _ _
+    c.in_ok-report.field-0 c.in-Bytes.text _ c.in_ok-read_source-in-Bytes.field-0 (Shader c.in-Shader.shader) c.in_ok-with_shader-in-Shader.field-0
+    (c.as_str.ensures ∙ name) c.in-Bytes.is c.in_ok-report.ensures.fetched c.in_ok-report.ensures.within c.in_ok-report.ensures.store
+    c.as_slice-in-Bytes.ensures.value c.in-Shader.is c.in_ok-read_source-in-Bytes.ensures.is
+    c.in_ok-with_shader-in-Shader.ensures.report

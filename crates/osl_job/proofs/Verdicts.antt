@@ -1,0 +1,121 @@
+-- Each text is one thing as a source, and each plan has one verdict.
+use Rattle.std.proofs.Common.{◌≡◌, ◌<◌, ◌≤◌, ℕ, List, length, Option, Some, None, Ok, Err, refl, ap, sym, ◌∙◌, subst, arith, ⊎_elim}
+use Rattle.std.proofs.lemmas.Bool.{cases_lt}
+use Rattle.std.proofs.lemmas.Option.{none-some, same_Some}
+use Rattle.osl_store.specs.Files.{Files}
+use Rattle.osl_tree.specs.declared.token.Token.{Token}
+use Rattle.osl_tree.specs.declared.token.LexKind.{LexKind}
+use Rattle.osl_tree.specs.declared.tree.Tree.{Tree}
+use Rattle.osl_tree.specs.Lexical.{Tokens, FirstBad}
+use Rattle.osl_tree.specs.Lexemes.{lexemes}
+use Rattle.osl_tree.specs.Files.{Spells}
+use Rattle.osl_tree.specs.FileReading.{parsed}
+use Rattle.osl_tree.proofs.Parsed.{parsed_again, parsed_spells}
+use Rattle.osl_lex.specs.declared.error.LexError.{LexError}
+use Rattle.osl_lex.specs.declared.error.LexError.TheVariants.{Bad}
+use Rattle.osl_lex.specs.Pieces.{IsFirstBad}
+use Rattle.osl_lex.specs.Readings.{Reading, IsReading}
+use Rattle.osl_lex.proofs.OneReading.{one_reading_of}
+use Rattle.osl_lex.proofs.SomeReading.{some_reading_of}
+use Rattle.osl_parse.specs.declared.error.SyntaxError.{SyntaxError}
+use Rattle.osl_parse.specs.declared.error.SyntaxError.TheVariants as errors
+use Rattle.osl_parse.specs.Reads.{IsNoTree}
+use Rattle.osl_parse.specs.Within.{LieWithin}
+use Rattle.osl_parse.proofs.Found.{lie_within}
+use Rattle.osl_job.specs.declared.source.Source.{Source}
+use Rattle.osl_job.specs.declared.source.Source.TheVariants.{NoTokens, NoTree}
+use Rattle.osl_job.specs.Small.{small_shader}
+use Rattle.osl_job.specs.Source.{IsSource, no_tokens, no_tree, has_tree, built}
+use Rattle.osl_job.specs.Verdict.{Verdict}
+use Rattle.osl_job.specs.Plan.{Plan, Read, Judge, Settled, IsVerdict, settled, absent, too_large, read, judged}
+
+-- ---- sources
+
+-- a text with a fault has no tokens
+pub bad_has_none : (text : List ℕ) (kind : LexKind) (at : ℕ) → FirstBad text kind at → (tokens : List Token) → Tokens text tokens → ⊥
+bad_has_none text kind at bad tokens is =
+    let e : ◌≡◌ {A = Reading} (Ok tokens) (Err (kind, at)) = one_reading_of text (Ok tokens) (Err (kind, at)) is bad in cc
+
+one_list : (text : List ℕ) (ts us : List Token) → Tokens text ts → Tokens text us → ts ≡ us
+one_list text ts us is js = let e : ◌≡◌ {A = Reading} (Ok ts) (Ok us) = one_reading_of text (Ok ts) (Ok us) is js in cc
+
+with_tokens : (text : List ℕ) (tokens : List Token) (found : Option Tree) → Tokens text tokens → parsed (lexemes text tokens) ≡ found → (source : Source) × IsSource text source
+with_tokens text tokens None is e = (NoTree, no_tree tokens is (λ tree spells. none-some tree (sym e ∙ parsed_again tree text tokens spells)))
+with_tokens text tokens (Some tree) is e =
+    let source = built (small_shader (lexemes text tokens)) in
+    (source, has_tree tokens tree source is (parsed_spells tree text tokens e) refl)
+
+source_of : (text : List ℕ) (reading : Reading) → IsReading text reading → (source : Source) × IsSource text source
+source_of text (Ok tokens) is = with_tokens text tokens (parsed (lexemes text tokens)) is refl
+source_of text (Err fault) is = (NoTokens, no_tokens (bad_has_none text fault.0 fault.1 is))
+
+pub some_source : (text : List ℕ) → (source : Source) × IsSource text source
+some_source text = let found = some_reading_of text in source_of text found.0 found.1
+
+pub one_source : (text : List ℕ) (x y : Source) → IsSource text x → IsSource text y → x ≡ y
+one_source text _ _ (no_tokens none) (no_tokens _) = refl
+one_source text _ _ (no_tokens none) (no_tree us is _) = absurd (none us is)
+one_source text _ _ (no_tokens none) (has_tree us tree y is _ _) = absurd (none us is)
+one_source text _ _ (no_tree ts is _) (no_tokens none) = absurd (none ts is)
+one_source text _ _ (no_tree ts is _) (no_tree us js _) = refl
+one_source text _ _ (no_tree ts is none) (has_tree us tree y js spells _) = absurd (none tree (subst (λ (vs : List Token). Spells tree text vs) (one_list text us ts js is) spells))
+one_source text _ _ (has_tree ts tree x is _ _) (no_tokens none) = absurd (none ts is)
+one_source text _ _ (has_tree ts tree x is spells _) (no_tree us js none) = absurd (none tree (subst (λ (vs : List Token). Spells tree text vs) (one_list text ts us is js) spells))
+one_source text _ _ (has_tree ts tree x is _ e) (has_tree us other y js _ d) = e ∙ ap (λ vs. built (small_shader (lexemes text vs))) (one_list text ts us is js) ∙ sym d
+
+-- the same, at what the code has in its hands
+
+pub bad_source : (text : List ℕ) (error : LexError) (kind : LexKind) (at : ℕ) → error ≡ Bad kind at → IsFirstBad text error → IsSource text NoTokens
+bad_source text error kind at e bad = no_tokens (bad_has_none text kind at (subst (λ (x : LexError). IsFirstBad text x) e bad))
+
+pub treeless_source : (text : List ℕ) (ts us : List Token) (error : SyntaxError) → us ≡ ts → Tokens text ts → error ≡ errors.NoTree → (IsNoTree {A = Tree} (Err error) → (tree : Tree) → Spells tree text us → ⊥) → IsSource text NoTree
+treeless_source text ts us error e is d none =
+    let refused : IsNoTree {A = Tree} (Err error) = subst (λ (x : SyntaxError). IsNoTree {A = Tree} (Err x)) (sym d) tt in
+    no_tree us (subst (λ (vs : List Token). Tokens text vs) (sym e) is) (none refused)
+
+pub spelled_source : (text : List ℕ) (ts us vs : List Token) (tree : Tree) (source : Source) → us ≡ ts → vs ≡ ts → Tokens text ts → Spells tree text us → source ≡ built (small_shader (lexemes text vs)) → IsSource text source
+spelled_source text ts us vs tree source e d is spells same =
+    has_tree us tree source (subst (λ (xs : List Token). Tokens text xs) (sym e) is) spells (same ∙ ap (λ xs. built (small_shader (lexemes text xs))) (d ∙ sym e))
+
+pub tokens_lie : (text : List ℕ) (ts us : List Token) → us ≡ ts → Tokens text ts → LieWithin text us
+tokens_lie text ts us e is = subst (λ (vs : List Token). LieWithin text vs) (sym e) (lie_within text 0 (length text) ts is)
+
+-- ---- verdicts
+
+read_verdict : (files : Files) (name : List ℕ) (limit : ℕ) (next : List ℕ → Plan) (file : Option (List ℕ)) → files name ≡ file
+    → ((bytes : List ℕ) → (v : Verdict) × IsVerdict files (next bytes) v) → (v : Verdict) × IsVerdict files (Read name limit next) v
+read_verdict files name limit next None e more = (_, absent name limit next e)
+read_verdict files name limit next (Some bytes) e more =
+    ⊎_elim
+    (λ (large : limit < length bytes). (_, too_large name bytes limit next e large))
+    (λ (fits : length bytes ≤ limit). let v = more bytes in (v.0, read name bytes limit next v.0 e fits v.1))
+    (cases_lt limit (length bytes))
+
+pub some_verdict : (plan : Plan) (files : Files) → (v : Verdict) × IsVerdict files plan v
+some_verdict (Read name limit next) files = read_verdict files name limit next (files name) refl (λ bytes. some_verdict (next bytes) files)
+some_verdict (Judge text next) files =
+    let source = some_source text in
+    let v = some_verdict (next source.0) files in
+    (v.0, judged text source.0 next v.0 source.1 v.1)
+some_verdict (Settled v) files = (v, settled v)
+
+same_bytes : (file : Option (List ℕ)) (a b : List ℕ) → file ≡ Some a → file ≡ Some b → a ≡ b
+same_bytes file a b e d = same_Some a b (sym e ∙ d)
+
+too_long : (file : Option (List ℕ)) (a b : List ℕ) (limit : ℕ) → file ≡ Some a → file ≡ Some b → limit < length a → length b ≤ limit → ⊥
+too_long file a b limit e d large fits = omega (arith, ap length (same_bytes file a b e d))
+
+pub one_verdict : (files : Files) (plan : Plan) (x y : Verdict) → IsVerdict files plan x → IsVerdict files plan y → x ≡ y
+one_verdict files _ _ _ (settled v) (settled w) = refl
+one_verdict files _ _ _ (absent _ _ _ e) (absent _ _ _ d) = refl
+one_verdict files _ _ _ (absent _ _ _ e) (too_large _ b _ _ d _) = absurd (none-some b (sym e ∙ d))
+one_verdict files _ _ _ (absent _ _ _ e) (read _ b _ _ w d _ q) = absurd (none-some b (sym e ∙ d))
+one_verdict files _ _ _ (too_large _ a _ _ e _) (absent _ _ _ d) = absurd (none-some a (sym d ∙ e))
+one_verdict files _ _ _ (too_large _ a _ _ e _) (too_large _ b _ _ d _) = refl
+one_verdict files _ _ _ (too_large name a limit _ e large) (read _ b _ _ w d fits q) = absurd (too_long (files name) a b limit e d large fits)
+one_verdict files _ _ _ (read _ a _ _ v e _ p) (absent _ _ _ d) = absurd (none-some a (sym d ∙ e))
+one_verdict files _ _ _ (read name a limit _ v e fits p) (too_large _ b _ _ d large) = absurd (too_long (files name) b a limit d e large fits)
+one_verdict files _ _ _ (read name a limit next v e _ p) (read _ b _ _ w d _ q) =
+    one_verdict files (next a) v w p (subst (λ (c : List ℕ). IsVerdict files (next c) w) (same_bytes (files name) b a d e) q)
+one_verdict files _ _ _ (judged text s next v is p) (judged _ t _ w js q) =
+    one_verdict files (next s) v w p (subst (λ (u : Source). IsVerdict files (next u) w) (one_source text t s js is) q)

@@ -1,0 +1,17 @@
+use Rattle.osl_job.proofs.Verdicts.{bad_source, treeless_source, spelled_source, tokens_lie}
+use Rattle.osl_job.proofs.source.read_source.Goals as goal
+
+pub returns-in-Err-Bad-clause-is : goal.returns-in-Err-Bad-clause-is
+returns-in-Err-Bad-clause-is c = bad_source c.args.text.now c.in-Err-Bad.field-0 c.in-Err-Bad.field-0-0 c.in-Err-Bad.field-0-1 c.in-Err-Bad.field-0-is c.in-Err-Bad.ensures.bad
+
+pub built-requires : goal.built-requires
+built-requires c = tokens_lie c.args.text.now c.in-Ok.tokens.items _ c.as_slice-in-Ok-parse.ensures.value c.in-Ok.ensures.tokens
+
+pub returns-in-Ok-parse-clause-is : goal.returns-in-Ok-parse-clause-is
+returns-in-Ok-parse-clause-is c =
+    spelled_source c.args.text.now c.in-Ok.tokens.items _ _ c.in-Ok-parse._tree c.in_ok-built-in-Ok-parse.field-0 c.as_slice.ensures.value c.as_slice-in-Ok-parse.ensures.value
+    c.in-Ok.ensures.tokens c.in-Ok-parse.ensures.found c.in_ok-built-in-Ok-parse.ensures.is
+
+pub returns-in-Err-NoTree-clause-is : goal.returns-in-Err-NoTree-clause-is
+returns-in-Err-NoTree-clause-is c =
+    treeless_source c.args.text.now c.in-Ok.tokens.items _ c.in-Err-NoTree.field-0 c.as_slice.ensures.value c.in-Ok.ensures.tokens c.in-Err-NoTree.field-0-is c.in-Err-NoTree.ensures.none

@@ -1,0 +1,64 @@
+//! A source, from its bytes on: its tokens, its tree, and what is built of it.
+
+ghost use Rattle.std.specs.Prelude.{◌≡◌, ◌≤◌, true, length, IfOk};
+ghost use Rattle.osl_tree.specs.Lexemes.{lexemes};
+ghost use Rattle.osl_typed.specs.Tree.{is_tied};
+ghost use Rattle.osl_parse.specs.Within.{LieWithin};
+ghost use Rattle.osl_job.specs.Small.{small_shader};
+ghost use Rattle.osl_job.specs.Source as spec;
+ghost use Rattle.osl_job.specs.Source.{IsSource, IfShader};
+
+use crate::shader::read_shader;
+use crate::text::Stop;
+use osl_lex::{LexError, lex};
+use osl_parse::{SyntaxError, parse};
+use osl_tree::token::Token;
+use osl_typed::Typed;
+use osl_value::Memory;
+use std::alloc::Global;
+
+/// What a source is.
+#[derive(Drop)]
+pub enum Source {
+    /// It has no tokens.
+    NoTokens,
+    /// No tree spells its tokens.
+    NoTree,
+    /// Its form is not built yet.
+    NotBuilt,
+    /// This shader, of the small form.
+    Shader(Typed),
+}
+
+/// What the text of a source is.
+pub fn read_source(alloc: Global, text: &[u8]) -> Result<Source, Memory>
+    requires { length text.now ≤ 1048576 }
+    ensures is { IfOk result (IsSource text.now) }
+    ensures tied { IfOk result (λ source. IfShader source (λ t. is_tied t ≡ true)) }
+    ensures few { IfOk result (λ source. IfShader source (λ t. length t.params ≤ 16)) }
+{
+    let tokens = match lex(alloc, text) {
+        Ok(tokens) => tokens,
+        Err(LexError::Bad { .. }) => return Ok(Source::NoTokens),
+        Err(LexError::Memory) => return Err(Memory),
+    };
+    match parse(alloc, text, tokens.as_slice()) {
+        Ok(_tree) => Ok(built(alloc, text, tokens.as_slice())?),
+        Err(SyntaxError::NoTree) => Ok(Source::NoTree),
+        Err(SyntaxError::Memory) => Err(Memory),
+    }
+}
+
+/// What is built of a source that has a tree.
+fn built(alloc: Global, text: &[u8], tokens: &[Token]) -> Result<Source, Memory>
+    requires { LieWithin text.now tokens.now }
+    ensures is { IfOk result (λ source. source ≡ spec.built (small_shader (lexemes text.now tokens.now))) }
+    ensures tied { IfOk result (λ source. IfShader source (λ t. is_tied t ≡ true)) }
+    ensures few { IfOk result (λ source. IfShader source (λ t. length t.params ≤ 16)) }
+{
+    match read_shader(alloc, text, tokens) {
+        Ok(shader) => Ok(Source::Shader(shader)),
+        Err(Stop::NotBuilt) => Ok(Source::NotBuilt),
+        Err(Stop::Memory) => Err(Memory),
+    }
+}
