@@ -15,7 +15,8 @@ use osl_tree::token::Punct;
 use sqlite_items::{Boxed, Items};
 use std::alloc::{AllocError, Global};
 
-/// The number of the level where only a unary expression stands.
+/// The level of a unary expression. Level 0 takes assignments too, 1 takes `?:`, and 2 to 11 take the
+/// binary operators that bind at least so tightly.
 const UNARY: u8 = 12;
 
 /// The height of a node over parts of this height, which may be no higher than `room`.
@@ -63,6 +64,7 @@ pub struct Grammar<F> {
 }
 
 impl<F: Fn(Global, &mut Tokens<'_>, u32, u8) -> Result<(Expr, u32), SyntaxError>> Grammar<F> {
+    /// A part, of this level.
     fn part(&self, tokens: &mut Tokens<'_>, level: u8) -> Result<(Expr, u32), SyntaxError>
         requires { Nests self.now.room (F.pre self.now.expr) (F.post self.now.expr) }
         ensures { Reads (spec.expr self.now.room level tokens.old) result tokens.new }
@@ -70,6 +72,7 @@ impl<F: Fn(Global, &mut Tokens<'_>, u32, u8) -> Result<(Expr, u32), SyntaxError>
         (self.expr)(self.alloc, tokens, self.room, level)
     }
 
+    /// The height of a node over parts of this height.
     fn node(&self, height: u32) -> Result<u32, SyntaxError>
         requires { Nests self.now.room (F.pre self.now.expr) (F.post self.now.expr) }
         ensures { Parses (parser.height_over self.now.room height) result }
@@ -96,6 +99,7 @@ impl<F: Fn(Global, &mut Tokens<'_>, u32, u8) -> Result<(Expr, u32), SyntaxError>
         Err(SyntaxError::NoTree)
     }
 
+    /// The arguments of a call or a constructor, with their parentheses.
     #[tactic(auto, unfolding(osl_tree::specs::Reading::arguments))]
     fn arguments(&self, tokens: &mut Tokens<'_>) -> Result<(Items<Expr>, u32), SyntaxError>
         requires { Nests self.now.room (F.pre self.now.expr) (F.post self.now.expr) }
@@ -110,6 +114,7 @@ impl<F: Fn(Global, &mut Tokens<'_>, u32, u8) -> Result<(Expr, u32), SyntaxError>
         Ok(found)
     }
 
+    /// A name or a call, behind the name.
     #[tactic(auto, unfolding(osl_tree::specs::Reading::word))]
     fn word(&self, tokens: &mut Tokens<'_>, name: Items<u8>) -> Result<(Expr, u32), SyntaxError>
         requires { Nests self.now.room (F.pre self.now.expr) (F.post self.now.expr) }
@@ -123,6 +128,7 @@ impl<F: Fn(Global, &mut Tokens<'_>, u32, u8) -> Result<(Expr, u32), SyntaxError>
         Ok((Expr::Call(name, arguments), height))
     }
 
+    /// An expression in parentheses, behind the first of them.
     #[tactic(auto, unfolding(osl_tree::specs::Reading::parenthesised))]
     fn parenthesised(&self, tokens: &mut Tokens<'_>) -> Result<(Expr, u32), SyntaxError>
         requires { Nests self.now.room (F.pre self.now.expr) (F.post self.now.expr) }
@@ -163,6 +169,7 @@ impl<F: Fn(Global, &mut Tokens<'_>, u32, u8) -> Result<(Expr, u32), SyntaxError>
         Ok((Expr::Construct(to, arguments), height))
     }
 
+    /// An element of what was found, behind the bracket.
     #[tactic(auto, unfolding(osl_tree::specs::Reading::index))]
     fn index(&self, tokens: &mut Tokens<'_>, found: (Expr, u32)) -> Result<(Expr, u32), SyntaxError>
         requires { Nests self.now.room (F.pre self.now.expr) (F.post self.now.expr) }
@@ -176,6 +183,7 @@ impl<F: Fn(Global, &mut Tokens<'_>, u32, u8) -> Result<(Expr, u32), SyntaxError>
         Ok((indexed, height))
     }
 
+    /// A field of what was found, behind the point.
     #[tactic(auto, unfolding(osl_tree::specs::Reading::field))]
     fn field(&self, tokens: &mut Tokens<'_>, found: (Expr, u32)) -> Result<(Expr, u32), SyntaxError>
         requires { Nests self.now.room (F.pre self.now.expr) (F.post self.now.expr) }
@@ -187,6 +195,7 @@ impl<F: Fn(Global, &mut Tokens<'_>, u32, u8) -> Result<(Expr, u32), SyntaxError>
         Ok((Expr::Field(Boxed::new(self.alloc, x)?, name), height))
     }
 
+    /// What was found, with `++` or `--` behind it.
     #[tactic(auto, unfolding(osl_tree::specs::Reading::stepped))]
     fn stepped(
         &self,
@@ -252,6 +261,8 @@ impl<F: Fn(Global, &mut Tokens<'_>, u32, u8) -> Result<(Expr, u32), SyntaxError>
         self.postfix(tokens)
     }
 
+    /// The first operand with the operators behind it that bind at least so tightly, each level joined
+    /// to the left.
     #[tactic(auto, unfolding(osl_tree::specs::Reading::climb))]
     fn climb(
         &self,
@@ -275,6 +286,7 @@ impl<F: Fn(Global, &mut Tokens<'_>, u32, u8) -> Result<(Expr, u32), SyntaxError>
         Err(SyntaxError::NoTree)
     }
 
+    /// What was found, or the `?:` that it is the condition of.
     #[tactic(auto, unfolding(osl_tree::specs::Reading::chosen))]
     fn chosen(
         &self,
@@ -313,6 +325,8 @@ impl<F: Fn(Global, &mut Tokens<'_>, u32, u8) -> Result<(Expr, u32), SyntaxError>
         }
     }
 
+    /// An expression of this level. Its unary part is read first, and only then it shows whether it is
+    /// assigned to: nothing is read twice.
     #[tactic(auto, unfolding(osl_tree::specs::Reading::whole))]
     pub fn whole(&self, tokens: &mut Tokens<'_>, level: u8) -> Result<(Expr, u32), SyntaxError>
         requires { Nests self.now.room (F.pre self.now.expr) (F.post self.now.expr) }

@@ -36,7 +36,7 @@ fn read(alloc: Global, source: &[u8], tokens: &[Token]) -> Result<Tree, SyntaxEr
 /// The tree that spells these tokens of the source, by the grammar of `osl_tree`.
 ///
 /// `NoTree` comes exactly where no tree of height at most 256 spells them, and `Memory` where memory
-/// was refused. It goes over the tokens once, and never back.
+/// was refused. Each token is taken once; to choose a rule, at most four are looked at ahead.
 pub fn parse(alloc: Global, source: &[u8], tokens: &[Token]) -> Result<Tree, SyntaxError>
     // The tokens are those of the source.
     requires { AreTokens source.now tokens.now }

@@ -31,6 +31,7 @@ pub struct Statements<F> {
 }
 
 impl<F: Fn(Global, &mut Tokens<'_>, u32) -> Result<(Stmt, u32), SyntaxError>> Statements<F> {
+    /// A statement inside.
     fn part(&self, tokens: &mut Tokens<'_>) -> Result<(Stmt, u32), SyntaxError>
         requires { NestsStmt self.now.room (F.pre self.now.stmt) (F.post self.now.stmt) }
         ensures { Reads (spec.stmt self.now.room tokens.old) result tokens.new }
@@ -47,6 +48,7 @@ impl<F: Fn(Global, &mut Tokens<'_>, u32) -> Result<(Stmt, u32), SyntaxError>> St
         Ok((Boxed::new(self.alloc, found)?, height))
     }
 
+    /// The height of a node over parts of this height.
     fn node(&self, height: u32) -> Result<u32, SyntaxError>
         requires { NestsStmt self.now.room (F.pre self.now.stmt) (F.post self.now.stmt) }
         ensures { Parses (parser.height_over self.now.room height) result }
@@ -54,6 +56,7 @@ impl<F: Fn(Global, &mut Tokens<'_>, u32) -> Result<(Stmt, u32), SyntaxError>> St
         node(self.room, height)
     }
 
+    /// An expression.
     fn inside(&self, tokens: &mut Tokens<'_>) -> Result<(Expr, u32), SyntaxError>
         requires { NestsStmt self.now.room (F.pre self.now.stmt) (F.post self.now.stmt) }
         ensures { Reads (exprs.expr self.now.room 0 tokens.old) result tokens.new }
@@ -79,6 +82,7 @@ impl<F: Fn(Global, &mut Tokens<'_>, u32) -> Result<(Stmt, u32), SyntaxError>> St
         maybe(self.alloc, tokens, self.room, close)
     }
 
+    /// Statements up to the closing brace.
     #[tactic(auto, unfolding(osl_tree::specs::StatementReading::stmts_from))]
     fn all(&self, tokens: &mut Tokens<'_>) -> Result<(Items<Stmt>, u32), SyntaxError>
         requires { NestsStmt self.now.room (F.pre self.now.stmt) (F.post self.now.stmt) }

@@ -21,6 +21,7 @@ use sqlite_items::Items;
 use std::alloc::Global;
 use std::marker::Model;
 
+/// The tokens that are left of a source.
 #[derive(Drop)]
 pub struct Tokens<'a> {
     source: &'a [u8],
@@ -52,6 +53,7 @@ fn inside(text: &[u8]) -> &[u8]
 }
 
 impl<'a> Tokens<'a> {
+    /// All tokens of a source, which lie within it.
     pub fn new(source: &'a [u8], tokens: &'a [Token]) -> Tokens<'a>
         requires { LieWithin source.now tokens.now }
         ensures { result ≡ lexical.lexemes source.now tokens.now }
@@ -128,6 +130,7 @@ impl<'a> Tokens<'a> {
         }
     }
 
+    /// Whether this mark comes next.
     #[tactic(auto, unfolding(osl_tree::specs::Parser::sees))]
     pub fn sees(&self, mark: Mark) -> bool
         ensures { result ≡ spec.sees mark self.now }
@@ -138,6 +141,7 @@ impl<'a> Tokens<'a> {
         }
     }
 
+    /// Takes this mark, if it comes next.
     pub fn eat(&mut self, mark: Mark) -> bool
         ensures { spec.eat mark self.old ≡ Some (result, self.new) }
     {
@@ -148,6 +152,7 @@ impl<'a> Tokens<'a> {
         sees
     }
 
+    /// Takes this mark, which must come next.
     #[tactic(auto, unfolding(osl_tree::specs::Parser::expect))]
     pub fn expect(&mut self, mark: Mark) -> Result<(), SyntaxError>
         ensures { Reads (spec.expect mark self.old) result self.new }

@@ -1,7 +1,7 @@
 -- A walk over symbols: what is known of those that it passed.
-use Rattle.std.proofs.Common.{◌≡◌, ℕ, suc, ◌+◌, ◌<◌, ◌≤◌, ⊎_elim, List, [], ◌∷◌, ◌++◌, length, Option, Some, None, Bool, true, false, not, Bor, refl, sym, ap, ◌∙◌, subst, arith}
+use Rattle.std.proofs.Common.{◌≡◌, ℕ, suc, ◌+◌, ◌<◌, ◌≤◌, ⊎_elim, List, [], ◌∷◌, ◌++◌, length, Some, None, Bool, true, false, not, Bor, refl, sym, ap, ◌∙◌, subst, arith}
 use Rattle.std.specs.Prelude.{slice_get, slice_index_or, map, take, ◌&&◌, ◌||◌, if◌then◌else◌, IsTrue}
-use Rattle.std.specs.List.{list_all, list_any}
+use Rattle.std.specs.List.{list_any}
 use Rattle.std.specs.Str.{bytes_eq}
 use Rattle.std.proofs.Math.Seq.{take-suc}
 use Rattle.std.proofs.lemmas.Bool.{cases_lt}
@@ -10,7 +10,7 @@ use Rattle.std.proofs.lemmas.List.Folds.{list_all-append}
 use Rattle.std.proofs.lemmas.Option.{slice_get-get_or, slice_get_within}
 use Rattle.oso_code.specs.declared.symbol.Symbol.{Symbol}
 use Rattle.oso_code.specs.Faults.{misfits, least}
-use Rattle.oso_code.specs.Symbols.{is_parameter, symbol_fits, are_parameters, is_taken, fits_behind, symbol_at_fits}
+use Rattle.oso_code.specs.Symbols.{is_parameter, symbol_fits, are_parameters, is_taken, symbol_at_fits}
 use Rattle.oso_code.proofs.Fitting.{some_same, all_fit}
 use Rattle.oso_code.proofs.Firsts.{first_misfit}
 

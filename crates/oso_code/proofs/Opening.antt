@@ -1,24 +1,19 @@
 -- A walk over ops: the ranges of an op that fits are opened on top of those that are open.
-use Rattle.std.proofs.Common.{◌≡◌, ℕ, zero, suc, ◌+◌, ◌<◌, ◌≤◌, List, [], ◌∷◌, ◌++◌, length, Option, Some, None, Bool, true, false, refl, sym, ap, ◌∙◌, subst, arith}
-use Rattle.std.specs.Prelude.{slice_get, slice_index_or, take, map, reverse, filter, flat_map, nat_lt, nat_le, ◌&&◌, if◌then◌else◌, IsTrue}
-use Rattle.std.specs.List.{list_all}
+use Rattle.std.proofs.Common.{◌≡◌, ℕ, suc, ◌+◌, ◌<◌, ◌≤◌, List, [], ◌∷◌, ◌++◌, Some, refl, sym, ap, ◌∙◌, arith}
+use Rattle.std.specs.Prelude.{slice_get, take, map, reverse, filter, flat_map}
 use Rattle.std.proofs.Math.Seq.{take-suc}
-use Rattle.std.proofs.lemmas.Bool.{le-leb, leb-true}
+use Rattle.std.proofs.lemmas.Bool.{le-leb}
 use Rattle.std.proofs.lemmas.List.{map-append, reverse-append}
 use Rattle.std.proofs.lemmas.List.Elements.{filter-append}
 use Rattle.std.proofs.lemmas.Option.{slice_get_within, get_or_from_slice_get}
-use Rattle.osl_value.specs.declared.op_name.OpName.{OpName}
-use Rattle.osl_value.specs.declared.op_name.OpName.TheVariants as O
 use Rattle.oso_code.specs.declared.checks.opened.Open.{Open}
 use Rattle.oso_code.specs.declared.checks.opened.Inside.{Inside}
 use Rattle.oso_code.specs.declared.checks.role.Role.{Role}
-use Rattle.oso_code.specs.declared.checks.role.Role.TheVariants.{LoopBody, CallBody, Part}
-use Rattle.oso_code.specs.declared.symbol.Symbol.{Symbol}
-use Rattle.oso_code.specs.Ranges.{Ranged, ranged, ranges_of, contains, around, in_body, in_loop_body, ascends, reach}
-use Rattle.oso_code.specs.Steps.{Span, span, Step, named_step, branch_step, while_step, for_step, do_step, call_step, compute}
-use Rattle.oso_code.specs.Walk.{inside_of, entered, open_two, open_three, open_one, open_ranges}
-use Rattle.oso_code.proofs.Members.{and_both}
-use Rattle.oso_code.proofs.Walked.{range_of, open_at, around_of, HeldOn, Follows, AllHeld, Begun, Ahead, Stacked, StandsIn, stands_in, same_open, top_misses, outside_early, outside_late, dropped}
+use Rattle.oso_code.specs.declared.checks.role.Role.TheVariants.{LoopBody, Part}
+use Rattle.oso_code.specs.Ranges.{ranges_of, contains, in_body}
+use Rattle.oso_code.specs.Steps.{Step}
+use Rattle.oso_code.specs.Walk.{inside_of, entered}
+use Rattle.oso_code.proofs.Walked.{range_of, open_at, around_of, HeldOn, Follows, AllHeld, Begun, Ahead, Stacked, StandsIn, stands_in, same_open, top_misses, outside_early}
 
 open_append : (j : ℕ) (xs ys : List Open) → open_at j (xs ++ ys) ≡ open_at j xs ++ open_at j ys
 open_append j xs ys = ap (filter (contains j)) (map-append range_of xs ys) ∙ filter-append (contains j) (map range_of xs) (map range_of ys)

@@ -1,5 +1,5 @@
 -- A walk over ops: each op that fits keeps what is known of the ranges that are open.
-use Rattle.std.proofs.Common.{◌≡◌, ℕ, zero, suc, ◌+◌, ◌<◌, ◌≤◌, List, [], ◌∷◌, ◌++◌, length, Option, Some, None, Bool, true, false, refl, sym, ap, ◌∙◌, subst, arith}
+use Rattle.std.proofs.Common.{◌≡◌, ℕ, ◌+◌, ◌≤◌, List, [], ◌∷◌, ◌++◌, Some, Bool, true, false, refl, ap, arith}
 use Rattle.std.specs.Prelude.{slice_get, filter, nat_lt, nat_le, ◌&&◌, if◌then◌else◌, IsTrue}
 use Rattle.std.proofs.lemmas.Bool.{leb-true, le-ltb}
 use Rattle.osl_value.specs.declared.op_name.OpName.{OpName}
@@ -14,7 +14,7 @@ use Rattle.oso_code.specs.Ranges.{Ranged, ranged, ranges_of, contains, ascends, 
 use Rattle.oso_code.specs.Steps.{span, Step, step_of, named_step, branch_step, while_step, for_step, do_step, call_step, compute}
 use Rattle.oso_code.specs.Walk.{inside_of, entered, open_two, open_three, open_one, open_ranges}
 use Rattle.oso_code.proofs.Members.{and_both}
-use Rattle.oso_code.proofs.Walked.{open_at, Ahead, Stacked, dropped, outside_late}
+use Rattle.oso_code.proofs.Walked.{open_at, Ahead, Stacked, dropped}
 use Rattle.oso_code.proofs.Opening.{next_stacked, opens_none, one_held, two_held, three_held}
 
 -- an empty range holds no place

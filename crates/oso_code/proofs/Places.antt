@@ -1,6 +1,6 @@
 -- The least of places, part by part.
-use Rattle.std.proofs.Common.{◌≡◌, ℕ, ◌+◌, min, List, [], ◌∷◌, ◌++◌, Option, Some, None, Bool, true, false, refl, sym, ap, ◌∙◌, arith}
-use Rattle.oso_code.specs.Faults.{unless, lesser, least, sooner}
+use Rattle.std.proofs.Common.{◌≡◌, ℕ, min, List, [], ◌∷◌, ◌++◌, Option, Some, None, refl, sym, ap, ◌∙◌, arith}
+use Rattle.oso_code.specs.Faults.{lesser, least, sooner}
 
 pub sooner_none : (o : Option ℕ) → sooner o None ≡ o
 sooner_none None = refl

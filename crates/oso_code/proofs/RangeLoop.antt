@@ -1,25 +1,24 @@
 -- The loop of a walk over ranges: what it has found so far.
-use Rattle.std.proofs.Common.{◌≡◌, ℕ, zero, suc, ◌+◌, ◌<◌, ◌≤◌, ⊎_elim, List, [], ◌∷◌, ◌++◌, length, Option, Some, None, Bool, true, false, not, refl, sym, ap, ◌∙◌, subst, arith}
-use Rattle.std.specs.Prelude.{slice_get, slice_index_or, take, reverse, nat_lt, nat_le, ◌&&◌, if◌then◌else◌, unwrap_or, IsTrue}
+use Rattle.std.proofs.Common.{◌≡◌, ℕ, ◌+◌, ◌<◌, ◌≤◌, ⊎_elim, List, [], ◌++◌, length, Option, Some, None, Bool, true, false, not, refl, sym, ap, ◌∙◌, subst, arith}
+use Rattle.std.specs.Prelude.{slice_get, slice_index_or, reverse, nat_le, ◌&&◌, if◌then◌else◌, IsTrue}
 use Rattle.std.proofs.lemmas.Bool.{lt-ltb, le-ltb, cases_lt}
 use Rattle.std.proofs.lemmas.Option.{slice_get-get_or, slice_get_within}
 use Rattle.oso_code.specs.declared.checks.opened.Open.{Open}
 use Rattle.oso_code.specs.declared.checks.opened.Inside.{Inside}
-use Rattle.oso_code.specs.declared.checks.opened.RangeFaults.{RangeFaults}
 use Rattle.oso_code.specs.declared.op.Op.{Op}
 use Rattle.oso_code.specs.declared.op.Section.{Section}
 use Rattle.oso_code.specs.declared.symbol.Symbol.{Symbol}
-use Rattle.oso_code.specs.Faults.{misfits, lesser, least}
+use Rattle.oso_code.specs.Faults.{misfits, least}
 use Rattle.oso_code.specs.Ops.{section_at}
 use Rattle.oso_code.specs.Ranges.{jumps_in_fit}
 use Rattle.oso_code.specs.Steps.{Step, step_of, steps_from}
 use Rattle.oso_code.specs.Valid.{nests_within, most_nested}
 use Rattle.oso_code.specs.Walk.{close, inside_of, open_ranges, opens, fits_inside, section_end, or_deep, if_before}
 use Rattle.oso_code.specs.Walked.{AreRangeFaults}
-use Rattle.oso_code.proofs.Decoding.{steps_get, length_steps}
+use Rattle.oso_code.proofs.Decoding.{steps_get}
 use Rattle.oso_code.proofs.Firsts.{FromOn, FitTo, first_misfit, stops_here, goes_on, all_fit_to, fit_from}
 use Rattle.oso_code.proofs.Fitting.{some_same}
-use Rattle.oso_code.proofs.Walked.{Ahead, Stacked, StandsIn, stands_in, close_keeps, close_ahead}
+use Rattle.oso_code.proofs.Walked.{Stacked, stands_in, close_keeps, close_ahead}
 use Rattle.oso_code.proofs.OpeningOps.{op_keeps}
 use Rattle.oso_code.proofs.RangeWalk.{fit_is, fits_jumps, nest_is}
 

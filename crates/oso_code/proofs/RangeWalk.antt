@@ -1,6 +1,6 @@
 -- A walk over ranges: what it knows at each op, and what it finds.
-use Rattle.std.proofs.Common.{◌≡◌, ℕ, zero, suc, ◌+◌, ◌<◌, ◌≤◌, List, [], ◌∷◌, ◌++◌, length, Option, Some, None, Bool, true, false, not, refl, sym, ap, ◌∙◌, subst, arith}
-use Rattle.std.specs.Prelude.{slice_get, slice_index_or, take, reverse, nat_lt, nat_le, ◌&&◌, ◌||◌, if◌then◌else◌, unwrap_or, IsTrue}
+use Rattle.std.proofs.Common.{◌≡◌, ℕ, ◌+◌, List, [], ◌∷◌, length, Option, Some, None, Bool, true, false, not, refl, ap, ◌∙◌, arith}
+use Rattle.std.specs.Prelude.{nat_lt, nat_le, ◌&&◌, ◌||◌, IsTrue}
 use Rattle.std.specs.List.{list_all}
 use Rattle.std.proofs.lemmas.Bool.{leb-true, leb-false, lt-ltb, le-ltb}
 use Rattle.osl_value.specs.declared.op_name.OpName.{OpName}
@@ -10,14 +10,12 @@ use Rattle.oso_code.specs.declared.checks.opened.Inside.{Inside}
 use Rattle.oso_code.specs.declared.op.Op.{Op}
 use Rattle.oso_code.specs.declared.op.Section.{Section}
 use Rattle.oso_code.specs.declared.symbol.Symbol.{Symbol}
-use Rattle.oso_code.specs.Faults.{misfits, least}
 use Rattle.oso_code.specs.Ops.{section_at}
 use Rattle.oso_code.specs.Ranges.{Ranged, ranges_of, around, ascends, reach, ends_in_section, in_loop_body, leaving_fits, jumps_in_fit}
-use Rattle.oso_code.specs.Steps.{Step, step_of, steps_from, named_step, branch_step, while_step, for_step, do_step, call_step, compute}
+use Rattle.oso_code.specs.Steps.{Step, step_of, named_step, branch_step, while_step, for_step, do_step, call_step, compute}
 use Rattle.oso_code.specs.Symbols.{is_empty}
 use Rattle.oso_code.specs.Valid.{nests_within, most_nested}
-use Rattle.oso_code.specs.Walk.{inside_of, opens_two, opens_three, opens_one, opens, may_leave, fits_inside, section_end, or_deep, if_before}
-use Rattle.oso_code.proofs.Firsts.{FromOn, FitTo, first_misfit}
+use Rattle.oso_code.specs.Walk.{inside_of, opens_two, opens_three, opens_one, opens, may_leave, fits_inside, section_end}
 use Rattle.oso_code.proofs.Members.{and_both}
 use Rattle.oso_code.proofs.Walked.{open_at, Ahead, Stacked, StandsIn, stands_in}
 use Rattle.oso_code.proofs.OpeningOps.{JumpsFit}

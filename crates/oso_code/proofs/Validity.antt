@@ -1,5 +1,5 @@
 -- Code is valid exactly where it has no flaw.
-use Rattle.std.proofs.Common.{◌≡◌, ◌++◌, Option, None, refl, sym, ◌∙◌, ℕ, List, [], ◌∷◌, length, Bool, true, false, Some, ap, arith}
+use Rattle.std.proofs.Common.{◌≡◌, ◌++◌, Option, None, refl, sym, ◌∙◌, ℕ, List, [], ◌∷◌, length, true, false, Some, ap, arith}
 use Rattle.std.specs.Prelude.{is_none, is_some, if◌then◌else◌, IsTrue}
 use Rattle.std.proofs.lemmas.Bool.{lt-ltb}
 use Rattle.oso_code.specs.declared.error.FlawKind.{FlawKind}

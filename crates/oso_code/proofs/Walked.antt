@@ -1,17 +1,13 @@
 -- A walk over ops: the ranges that are open are those in which a place stands.
-use Rattle.std.proofs.Common.{◌≡◌, ℕ, zero, suc, ◌+◌, ◌-◌, ◌^◌, ◌<◌, ◌≤◌, ⊎_elim, List, [], ◌∷◌, ◌++◌, length, Option, Some, None, Bool, true, false, refl, sym, ap, ◌∙◌, subst, arith}
-use Rattle.std.specs.Prelude.{slice_get, take, map, reverse, filter, flat_map, nat_lt, nat_le, ◌&&◌, if◌then◌else◌, IsTrue}
+use Rattle.std.proofs.Common.{◌≡◌, ℕ, suc, ◌+◌, ◌<◌, ◌≤◌, List, [], ◌∷◌, length, Bool, true, false, refl, sym, ap, ◌∙◌, arith}
+use Rattle.std.specs.Prelude.{take, map, reverse, filter, flat_map, nat_lt, nat_le, ◌&&◌, if◌then◌else◌, IsTrue}
 use Rattle.std.specs.List.{list_all}
-use Rattle.std.proofs.lemmas.Bool.{ltb-true, ltb-false, lt-ltb, le-ltb, le-leb, lt-leb, leb-true, cases_lt}
-use Rattle.std.proofs.lemmas.List.{map-append}
-use Rattle.std.proofs.lemmas.List.Elements.{filter-append}
+use Rattle.std.proofs.lemmas.Bool.{ltb-true, ltb-false, lt-ltb, le-ltb, le-leb, lt-leb, leb-true}
 use Rattle.oso_code.specs.declared.checks.opened.Open.{Open}
 use Rattle.oso_code.specs.declared.checks.opened.Inside.{Inside}
-use Rattle.oso_code.specs.declared.checks.role.Role.{Role}
-use Rattle.oso_code.specs.declared.checks.role.Role.TheVariants.{LoopBody, CallBody, Part}
-use Rattle.oso_code.specs.Ranges.{Ranged, ranged, ranges_of, contains, around, in_body, in_loop_body}
-use Rattle.oso_code.specs.Steps.{Span, span, Step}
-use Rattle.oso_code.specs.Walk.{close, inside_of, entered}
+use Rattle.oso_code.specs.Ranges.{Ranged, ranged, ranges_of, contains, in_body, in_loop_body}
+use Rattle.oso_code.specs.Steps.{span, Step}
+use Rattle.oso_code.specs.Walk.{close, inside_of}
 use Rattle.oso_code.proofs.Members.{and_both, both_and}
 
 -- an open range as a range

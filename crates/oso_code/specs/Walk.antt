@@ -1,5 +1,5 @@
 -- A walk over ops with the ranges that are open, the innermost first.
-use Rattle.std.specs.Prelude.{ℕ, ◌+◌, nat_lt, nat_le, Bool, true, false, ◌&&◌, if◌then◌else◌, List, [], ◌∷◌, ◌++◌, Option, Some, None}
+use Rattle.std.specs.Prelude.{ℕ, ◌+◌, nat_lt, nat_le, Bool, true, false, ◌&&◌, if◌then◌else◌, List, [], ◌∷◌, Option, Some, None}
 use Rattle.osl_value.specs.declared.op_name.OpName.{OpName}
 use Rattle.osl_value.specs.declared.op_name.OpName.TheVariants as O
 use Rattle.oso_code.specs.declared.checks.opened.Open.{Open}

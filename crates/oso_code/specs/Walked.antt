@@ -1,12 +1,12 @@
 -- What a walk over ranges finds.
-use Rattle.std.specs.Prelude.{◌≡◌, ℕ, List, Option, unwrap_or, length}
+use Rattle.std.specs.Prelude.{◌≡◌, List, unwrap_or, length}
 use Rattle.oso_code.specs.declared.checks.opened.RangeFaults.{RangeFaults}
 use Rattle.oso_code.specs.declared.op.Op.{Op}
 use Rattle.oso_code.specs.declared.op.Section.{Section}
 use Rattle.oso_code.specs.declared.symbol.Symbol.{Symbol}
 use Rattle.oso_code.specs.Faults.{misfits, least}
 use Rattle.oso_code.specs.Ranges.{jumps_in_fit}
-use Rattle.oso_code.specs.Steps.{Step, steps_from}
+use Rattle.oso_code.specs.Steps.{steps_from}
 use Rattle.oso_code.specs.Valid.{nests_within}
 use Rattle.oso_code.specs.Walk.{if_before}
 

@@ -1,4 +1,4 @@
-use Rattle.std.proofs.Common.{◌≡◌, sym, ap, ◌∙◌}
+use Rattle.std.proofs.Common.{sym, ◌∙◌}
 use Rattle.oso_code.specs.Faults.{misfits, least, sooner}
 use Rattle.oso_code.specs.Ops.{op_in_fits, op_at_fits}
 use Rattle.oso_code.specs.Sections.{section_faults}

@@ -1,4 +1,4 @@
-use Rattle.std.proofs.Common.{◌≡◌, ◌+◌, sym, ap, ◌∙◌, arith}
+use Rattle.std.proofs.Common.{◌+◌, sym, ap, ◌∙◌, arith}
 use Rattle.oso_code.specs.Ops.{owner_of, op_fits, op_in_fits}
 use Rattle.oso_code.proofs.Firsts.{stops_here, goes_on, all_fit_to}
 use Rattle.oso_code.proofs.Chained.{end_before_later}

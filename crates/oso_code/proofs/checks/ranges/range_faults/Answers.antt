@@ -1,9 +1,8 @@
-use Rattle.std.proofs.Common.{◌≡◌, ◌+◌, ◌<◌, ◌++◌, ◌^◌, [], List, reverse, length, sym, ap, ◌∙◌, subst, arith}
-use Rattle.oso_code.specs.declared.symbol.Symbol.{Symbol}
+use Rattle.std.proofs.Common.{◌≡◌, ◌+◌, ◌<◌, ◌++◌, ◌^◌, [], reverse, length, sym, ap, ◌∙◌, subst, arith}
 use Rattle.oso_code.specs.Ops.{section_at}
 use Rattle.oso_code.specs.Walk.{close, inside_of, open_ranges, fits_inside, section_end, or_deep}
 use Rattle.oso_code.proofs.Chained.{end_before_later}
-use Rattle.oso_code.proofs.RangeLoop.{Walking, walk_begins, walk_ends, walk_stops, walk_goes, walk_depth}
+use Rattle.oso_code.proofs.RangeLoop.{Walking, walk_ends, walk_stops, walk_goes, walk_depth}
 use Rattle.oso_code.proofs.checks.ranges.range_faults.Goals as goal
 
 pub returns-then-not-fits_inside : goal.returns-then-not-fits_inside

@@ -1,4 +1,3 @@
-use Rattle.std.proofs.Common.{◌≤◌}
 use Rattle.oso_code.specs.Sections.{EndBefore}
 use Rattle.oso_code.proofs.checks.sections.section_from.Given as goal
 
