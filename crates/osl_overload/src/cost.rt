@@ -36,8 +36,9 @@ fn argument_cost(formal: Formal, arg: Arg) -> Option<u64>
     }
 }
 
-/// What it costs to pass an argument where this kind is wanted.
-fn cost(arg: Arg, wanted: Kind) -> Option<u64>
+/// What it costs to pass an argument where this kind is wanted: 0 for the same kind, 1 to 3 for a promotion, and `None` where
+/// it does not fit.
+pub fn cost(arg: Arg, wanted: Kind) -> Option<u64>
     ensures value { result ≡ cost arg wanted }
     ensures small { IfSome result (λ cost. cost ≤ 3) }
 {

@@ -6,7 +6,7 @@
 #![tactic(auto)]
 
 pub mod choice;
-mod cost;
+pub mod cost;
 pub mod signature;
 mod standing;
 
