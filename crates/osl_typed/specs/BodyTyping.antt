@@ -33,7 +33,7 @@ use Rattle.osl_typed.specs.Typing.{◌>>=◌, when, sequence, typing, fit, tree_
 -- ---- types
 
 -- an array has 1 to 1,024 elements, and none of them is a closure
-abbrev array_kind : Base → ℤ → Option Kind
+abbrev pub array_kind : Base → ℤ → Option Kind
 array_kind base (pos n) =
     if nat_le 1 n && nat_le n longest_array && not (same_base base Closure) then Some (Value (record { base = base; len = n })) else None
 array_kind base (negsuc n) = None
@@ -48,7 +48,7 @@ declared_kind structures (types.Struct word) (Some n) = None
 -- ---- what a variable begins with
 
 -- what a list in braces may give: the elements of an array, or the fields of a structure
-abbrev listed_kinds : List StructureName → Kind → Option (List Kind)
+abbrev pub listed_kinds : List StructureName → Kind → Option (List Kind)
 listed_kinds structures (Value ty) = if is_array ty then Some (replicate ty.len (Value (element_type ty))) else None
 listed_kinds structures (Structure m) = Some (map (λ field. field.kind) (fields_of_structure structures m))
 listed_kinds structures Void = None
@@ -69,7 +69,7 @@ begun sight scope kind (begin.List items) = do
 
 -- ---- declarations
 
-abbrev maybe_begun : Sight → Scope → Kind → Option Init → Option (Option TypedInit)
+abbrev pub maybe_begun : Sight → Scope → Kind → Option Init → Option (Option TypedInit)
 maybe_begun sight scope kind None = Some None
 maybe_begun sight scope kind (Some x) = begun sight scope kind x >>= λ y. Some (Some y)
 
@@ -117,7 +117,7 @@ maybe go None = Some None
 maybe go (Some a) = go a >>= λ b. Some (Some b)
 
 -- a value is returned as the kind of the function, which is not `void`
-abbrev returned : Around → Scope → Option Expr → Option (Option TypedExpr)
+abbrev pub returned : Around → Scope → Option Expr → Option (Option TypedExpr)
 returned around scope None = when (same_kind around.result Void) >>= λ ok. Some None
 returned around scope (Some a) = do
   ok ← when (not (same_kind around.result Void))
@@ -125,7 +125,7 @@ returned around scope (Some a) = do
   x ← fit around.result b
   Some (Some x)
 
-abbrev started : Around → Scope → ForStart → Option (TypedForStart × Scope)
+abbrev pub started : Around → Scope → ForStart → Option (TypedForStart × Scope)
 started around scope from.Nothing = Some (start.Nothing, scope)
 started around scope (from.Expr a) = evaluated around scope a >>= λ x. Some (start.Expr x, scope)
 started around scope (from.Declare d) = declare_all around.sight d.ty d.vars scope >>= λ r. Some (start.Declare (r.0), r.1)

@@ -17,51 +17,51 @@ use Rattle.osl_typed.specs.Scopes.{Candidate}
 
 -- ---- kinds
 
-abbrev color : Kind
+abbrev pub color : Kind
 color = Value (only Color)
 
-abbrev point : Kind
+abbrev pub point : Kind
 point = Value (only Point)
 
-abbrev vector : Kind
+abbrev pub vector : Kind
 vector = Value (only Vector)
 
-abbrev normal : Kind
+abbrev pub normal : Kind
 normal = Value (only Normal)
 
-abbrev matrix : Kind
+abbrev pub matrix : Kind
 matrix = Value (only Matrix)
 
-abbrev string : Kind
+abbrev pub string : Kind
 string = Value (only Str)
 
-abbrev triples : List Kind
+abbrev pub triples : List Kind
 triples = color ∷ point ∷ vector ∷ normal ∷ []
 
 -- the kinds that componentwise functions take
-abbrev each : List Kind
+abbrev pub each : List Kind
 each = float ∷ triples
 
 -- ---- signatures
 
-abbrev input : Kind → Formal
+abbrev pub input : Kind → Formal
 input kind = record { kind = kind; output = false }
 
 -- inputs of these kinds, and what it gives
-abbrev takes : List Kind → Kind → Signature
+abbrev pub takes : List Kind → Kind → Signature
 takes kinds result = record { params = map input kinds; result = result }
 
-abbrev one : Kind → Signature
+abbrev pub one : Kind → Signature
 one kind = takes (kind ∷ []) kind
 
-abbrev two : Kind → Signature
+abbrev pub two : Kind → Signature
 two kind = takes (kind ∷ kind ∷ []) kind
 
-abbrev three : Kind → Signature
+abbrev pub three : Kind → Signature
 three kind = takes (kind ∷ kind ∷ kind ∷ []) kind
 
 -- a blend by a float
-abbrev blend : Kind → Signature
+abbrev pub blend : Kind → Signature
 blend kind = takes (kind ∷ kind ∷ float ∷ []) kind
 
 -- ---- the table
@@ -71,7 +71,7 @@ pub record Line : Type 0 where
   pub callee : Callee
   pub signatures : List Signature
 
-abbrev line : List ℕ → OpName → List Signature → Line
+abbrev pub line : List ℕ → OpName → List Signature → Line
 line name operation signatures = record { name = name; callee = Operation operation; signatures = signatures }
 
 abbrev pub lines : List Line
@@ -119,11 +119,11 @@ lines =
     ∷ line (codes "debug") op.ClDebug (takes (string ∷ []) closure ∷ [])
     ∷ []
 
-abbrev of_line : Line → List Candidate
+abbrev pub of_line : Line → List Candidate
 of_line x = map (λ signature. record { signature = signature; callee = x.callee }) x.signatures
 
 -- `arraylength` takes any array: for arguments of these kinds it is the one function that takes just them
-abbrev array_length : List Kind → List Candidate
+abbrev pub array_length : List Kind → List Candidate
 array_length (kind ∷ []) =
     if is_type is_array kind then record { signature = takes (kind ∷ []) int; callee = Operation op.ArrayLength } ∷ [] else []
 array_length _ = []

@@ -50,7 +50,7 @@ same_root (root.Variable j) (root.Variable k) = j == k
 same_root (root.Global g) (root.Global h) = same_global g h
 same_root _ _ = false
 
-abbrev share_root : Option Root → Option Root → Bool
+abbrev pub share_root : Option Root → Option Root → Bool
 share_root (Some a) (Some b) = same_root a b
 share_root _ _ = false
 

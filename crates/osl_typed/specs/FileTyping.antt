@@ -59,7 +59,7 @@ unfoldable pub lines_added : List StructureName → List Fields → List FieldNa
 lines_added structures [] fields = Some fields
 lines_added structures (line ∷ lines) fields = fields_added structures line.ty line.items fields >>= lines_added structures lines
 
-abbrev with_structure : StructureName → Above → Above
+abbrev pub with_structure : StructureName → Above → Above
 with_structure structure above =
     record { sight = record { structures = above.sight.structures ++ structure ∷ []; functions = above.sight.functions }; functions = above.functions }
 
@@ -80,15 +80,15 @@ formals_added structures (formal ∷ formals) scope = do
   rest ← formals_added structures formals (with_variable formal.item.name kind formal.output scope)
   Some (record { kind = kind; output = formal.output } ∷ rest.0, rest.1)
 
-abbrev result_kind : List StructureName → Option TypeName → Option Kind
+abbrev pub result_kind : List StructureName → Option TypeName → Option Kind
 result_kind structures None = Some Void
 result_kind structures (Some type) = declared_kind structures type None
 
 -- a function of this name takes just these kinds
-abbrev is_taken : Sight → List ℕ → List Kind → Bool
+abbrev pub is_taken : Sight → List ℕ → List Kind → Bool
 is_taken sight name kinds = list_any (λ c. pointwise same_kind (formal_kinds c.signature.params) kinds) (candidates sight name kinds)
 
-abbrev with_typed : List ℕ → TypedFunction → Above → Above
+abbrev pub with_typed : List ℕ → TypedFunction → Above → Above
 with_typed name f above = record {
   sight = record {
     structures = above.sight.structures;
@@ -106,7 +106,7 @@ function_added f above = do
   body ← body_typed (record { sight = above.sight; result = result }) f.body (enter (formals.1))
   Some (with_typed f.name (record { result = result; formals = formals.0; frame = (body.1).kinds; body = body.0 }) above)
 
-abbrev definition_added : Definition → Above → Option Above
+abbrev pub definition_added : Definition → Above → Option Above
 definition_added (definitions.Structure structure) above = structure_added structure above
 definition_added (definitions.Function f) above = function_added f above
 
@@ -123,20 +123,20 @@ pub data Constancy : Type 0 where
   Constant : Constancy
   Neither : Constancy
 
-abbrev is_constancy : Constancy → Bool
+abbrev pub is_constancy : Constancy → Bool
 is_constancy Numeral = true
 is_constancy Constant = true
 is_constancy Neither = false
 
-abbrev constant_if : Bool → Constancy
+abbrev pub constant_if : Bool → Constancy
 constant_if true = Constant
 constant_if false = Neither
 
-abbrev negated : Constancy → Constancy
+abbrev pub negated : Constancy → Constancy
 negated Numeral = Constant
 negated _ = Neither
 
-abbrev constancy_step : Expr-F Constancy → Constancy
+abbrev pub constancy_step : Expr-F Constancy → Constancy
 constancy_step (x.Int n) = Numeral
 constancy_step (x.Float units) = Numeral
 constancy_step (x.Text bytes) = Constant
@@ -150,7 +150,7 @@ constancy a = fold-Expr Constancy constancy_step a
 abbrev pub is_constant : Expr → Bool
 is_constant a = is_constancy (constancy a)
 
-abbrev is_constant_init : Init → Bool
+abbrev pub is_constant_init : Init → Bool
 is_constant_init (begin.Expr a) = is_constant a
 is_constant_init (begin.List items) = list_all is_constant items
 
@@ -163,7 +163,7 @@ datum_typed sight scope datum = do
   init ← begun sight scope kind datum.init
   Some (record { ty = ty; name = datum.item.name; init = init })
 
-abbrev metadata_typed : Sight → Scope → List Datum → Option (List TypedDatum)
+abbrev pub metadata_typed : Sight → Scope → List Datum → Option (List TypedDatum)
 metadata_typed sight scope metadata = sequence (map (datum_typed sight scope) metadata)
 
 -- ---- the shader
@@ -186,7 +186,7 @@ unfoldable pub params_added : Sight → List Param → Scope → Option (List Ty
 params_added sight [] scope = Some ([], scope)
 params_added sight (param ∷ params) scope = param_added sight param scope >>= λ r. params_added sight params (r.1) >>= λ rest. Some (r.0 ∷ rest.0, rest.1)
 
-abbrev kinds_of_fields : StructureName → TypedStructure
+abbrev pub kinds_of_fields : StructureName → TypedStructure
 kinds_of_fields structure = record { fields = map (λ field. field.kind) structure.fields }
 
 -- A shader's parameters and the outermost declarations of its body stand in one block.

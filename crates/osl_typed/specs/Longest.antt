@@ -85,11 +85,11 @@ abbrev pub in_init : Init → Longest
 in_init (begin.Expr a) = in_expr a
 in_init (begin.List items) = all_of (map in_expr items)
 
-abbrev in_maybe_init : Option Init → Longest
+abbrev pub in_maybe_init : Option Init → Longest
 in_maybe_init None = none
 in_maybe_init (Some x) = in_init x
 
-abbrev in_var : Var → Longest
+abbrev pub in_var : Var → Longest
 in_var v = in_item v.item and in_maybe_init v.init
 
 abbrev pub in_declaration : Declaration → Longest
@@ -97,7 +97,7 @@ in_declaration d = in_type d.ty and all_of (map in_var d.vars)
 
 -- ---- statements
 
-abbrev in_start : ForStart → Longest
+abbrev pub in_start : ForStart → Longest
 in_start from.Nothing = none
 in_start (from.Expr a) = in_expr a
 in_start (from.Declare d) = in_declaration d
@@ -123,31 +123,31 @@ in_body body = all_of (map in_stmt body)
 
 -- ---- sources
 
-abbrev in_fields : Fields → Longest
+abbrev pub in_fields : Fields → Longest
 in_fields fields = in_type fields.ty and all_of (map in_item fields.items)
 
-abbrev in_structure : Structure → Longest
+abbrev pub in_structure : Structure → Longest
 in_structure structure = named structure.name and all_of (map in_fields structure.fields)
 
-abbrev in_formal : Formal → Longest
+abbrev pub in_formal : Formal → Longest
 in_formal formal = in_type formal.ty and in_item formal.item
 
-abbrev in_result : Option TypeName → Longest
+abbrev pub in_result : Option TypeName → Longest
 in_result None = none
 in_result (Some type) = in_type type
 
-abbrev in_function : Function → Longest
+abbrev pub in_function : Function → Longest
 in_function f = in_result f.result and named f.name and all_of (map in_formal f.formals) and in_body f.body
 
-abbrev in_definition : Definition → Longest
+abbrev pub in_definition : Definition → Longest
 in_definition (definitions.Structure structure) = in_structure structure
 in_definition (definitions.Function f) = in_function f
 
 -- a datum of metadata has names, and its strings do not count
-abbrev in_datum : Datum → Longest
+abbrev pub in_datum : Datum → Longest
 in_datum datum = record { word = (in_type datum.ty and in_item datum.item).word; text = 0 }
 
-abbrev in_param : Param → Longest
+abbrev pub in_param : Param → Longest
 in_param param = in_type param.ty and in_item param.item and in_init param.init and all_of (map in_datum param.metadata)
 
 abbrev pub longest_of : Tree → Longest

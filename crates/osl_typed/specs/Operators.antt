@@ -46,7 +46,7 @@ abbrev pub is_factor : Ty → Bool
 is_factor ty = is_number ty || is_only Color ty
 
 -- a point, a vector or a normal
-abbrev is_spatial_type : Ty → Bool
+abbrev pub is_spatial_type : Ty → Bool
 is_spatial_type ty = is_spatial ty.base && (ty.len == 0)
 
 -- the type that reserved words name
@@ -73,20 +73,20 @@ joined a b =
     else None
 
 -- an operation on operands of this type that are fit for it, and the type that it gives
-abbrev on_type : OpName → (fits : Bool) → Ty → Option (OpName × Ty)
+abbrev pub on_type : OpName → (fits : Bool) → Ty → Option (OpName × Ty)
 on_type name fits ty = if fits then Some (name, ty) else None
 
-abbrev arithmetic : OpName → Ty → Option (OpName × Ty)
+abbrev pub arithmetic : OpName → Ty → Option (OpName × Ty)
 arithmetic name ty = on_type name (is_arithmetic ty) ty
 
-abbrev of_ints : OpName → Ty → Option (OpName × Ty)
+abbrev pub of_ints : OpName → Ty → Option (OpName × Ty)
 of_ints name ty = on_type name (is_only Int ty) ty
 
-abbrev comparing : OpName → Ty → Option (OpName × Ty)
+abbrev pub comparing : OpName → Ty → Option (OpName × Ty)
 comparing name ty = on_type name (is_number ty) (only Int)
 
 -- what is equal or not: numbers, triples, strings and matrices
-abbrev equating : OpName → Ty → Option (OpName × Ty)
+abbrev pub equating : OpName → Ty → Option (OpName × Ty)
 equating name ty = on_type name (is_arithmetic ty || is_only Str ty || is_only Matrix ty) (only Int)
 
 -- the operation that an operator is on operands of one type, and the type that it gives; `&&` and `||` are no operations
@@ -135,11 +135,11 @@ abbrev pub is_scaling : BinaryOp → Kind → Kind → Bool
 is_scaling by.Multiply a b = (is_type is_factor a && same_kind b closure) || (same_kind a closure && is_type is_factor b)
 is_scaling _ a b = false
 
-abbrev on_one_type : Kind → Option (OpName × Ty) → Option Operation
+abbrev pub on_one_type : Kind → Option (OpName × Ty) → Option Operation
 on_one_type kind None = None
 on_one_type kind (Some (name, ty)) = Some (record { op = name; ty = ty; left = kind; right = kind })
 
-abbrev on_one_kind : BinaryOp → Option Kind → Option Operation
+abbrev pub on_one_kind : BinaryOp → Option Kind → Option Operation
 on_one_kind operator (Some (Value ty)) = on_one_type (Value ty) (given operator ty)
 on_one_kind operator _ = None
 

@@ -25,7 +25,7 @@ unfoldable pub look : List ℕ → List Binding → Option Binding
 look name [] = None
 look name (b ∷ bs) = if bytes_eq b.name name then Some b else look name bs
 
-abbrev stands_at : ℕ → Option Binding → Bool
+abbrev pub stands_at : ℕ → Option Binding → Bool
 stands_at depth None = false
 stands_at depth (Some b) = b.depth == depth
 
@@ -59,7 +59,7 @@ is_assignable_global Surface Ci = true
 is_assignable_global Volume Ci = true
 is_assignable_global _ _ = false
 
-abbrev global_binding : (GlobalName → Bool) → GlobalName → Binding
+abbrev pub global_binding : (GlobalName → Bool) → GlobalName → Binding
 global_binding writable g = record { name = global_text g; depth = 0; root = root.Global g; kind = Value (type_of_global g); writable = writable g }
 
 -- the scope round a shader or a function, where these globals may be assigned

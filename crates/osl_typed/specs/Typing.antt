@@ -62,7 +62,7 @@ sequence (a ∷ rest) = a >>= λ first. sequence rest >>= λ others. Some (first
 
 -- ---- what is known of an expression
 
-abbrev tree_of_form : Form → TypedExpr
+abbrev pub tree_of_form : Form → TypedExpr
 tree_of_form (Place root writable part indices) = e.Variable root part indices
 tree_of_form (Piece kind a part indices) = e.PartOf kind a part indices
 tree_of_form (Whole a) = a
@@ -70,11 +70,11 @@ tree_of_form (Whole a) = a
 abbrev pub tree_of : Found → TypedExpr
 tree_of a = tree_of_form a.form
 
-abbrev writable_form : Form → Bool
+abbrev pub writable_form : Form → Bool
 writable_form (Place root writable part indices) = writable
 writable_form _ = false
 
-abbrev root_of_form : Form → Option Root
+abbrev pub root_of_form : Form → Option Root
 root_of_form (Place root writable part indices) = Some root
 root_of_form _ = None
 
@@ -85,7 +85,7 @@ root_of a = root_of_form a.form
 abbrev pub as_argument : Found → Arg
 as_argument a = record { kind = a.kind; zero_literal = a.zero_literal; writable = writable_form a.form }
 
-abbrev found : Form → Kind → Found
+abbrev pub found : Form → Kind → Found
 found form kind = record { form = form; kind = kind; zero_literal = false; is_row = false }
 
 -- an expression that is no variable and no part of one
@@ -104,11 +104,11 @@ expression a = if a.is_row then None else Some a
 
 -- ---- what stands where a kind is wanted
 
-abbrev promotion_to : Kind → TypedExpr → Option TypedExpr
+abbrev pub promotion_to : Kind → TypedExpr → Option TypedExpr
 promotion_to (Value ty) a = Some (e.Promote ty a)
 promotion_to _ a = None
 
-abbrev fit_at : Kind → TypedExpr → Option ℕ → Option TypedExpr
+abbrev pub fit_at : Kind → TypedExpr → Option ℕ → Option TypedExpr
 fit_at kind a None = None
 fit_at kind a (Some zero) = Some a
 fit_at kind a (Some (suc n)) = promotion_to kind a
@@ -119,7 +119,7 @@ fit kind a = fit_at kind (tree_of a) (cost (as_argument a) kind)
 
 -- ---- literals and names
 
-abbrev int_literal : ℤ → Found
+abbrev pub int_literal : ℤ → Found
 int_literal n = record { form = Whole (e.Int n); kind = int; zero_literal = is_zero n; is_row = false }
 
 abbrev pub name : List ℕ → List Binding → Option Found
@@ -131,29 +131,29 @@ in_parens a = value (e.Paren a.kind (tree_of a)) a.kind
 
 -- ---- fields, components and indices
 
-abbrev with_index : Kind → TypedExpr → Form → Form
+abbrev pub with_index : Kind → TypedExpr → Form → Form
 with_index kind i (Place root writable part indices) = Place root writable part (indices ++ i ∷ [])
 with_index kind i (Piece from a part indices) = Piece from a part (indices ++ i ∷ [])
 with_index kind i (Whole a) = Piece kind a (whole_of kind) (i ∷ [])
 
-abbrev with_field_in : ℕ → Kind → Part → Part
+abbrev pub with_field_in : ℕ → Kind → Part → Part
 with_field_in field kind part = record { fields = part.fields ++ field ∷ []; kind = kind; component = part.component }
 
-abbrev with_field : Kind → ℕ → Kind → Form → Form
+abbrev pub with_field : Kind → ℕ → Kind → Form → Form
 with_field from field kind (Place root writable part indices) = Place root writable (with_field_in field kind part) indices
 with_field from field kind (Piece origin a part indices) = Piece origin a (with_field_in field kind part) indices
 with_field from field kind (Whole a) = Piece from a (with_field_in field kind (whole_of from)) []
 
-abbrev with_component_in : ℕ → Part → Part
+abbrev pub with_component_in : ℕ → Part → Part
 with_component_in c part = record { fields = part.fields; kind = part.kind; component = Some c }
 
-abbrev with_component : Kind → ℕ → Form → Form
+abbrev pub with_component : Kind → ℕ → Form → Form
 with_component kind c (Place root writable part indices) = Place root writable (with_component_in c part) indices
 with_component kind c (Piece from a part indices) = Piece from a (with_component_in c part) indices
 with_component kind c (Whole a) = Piece kind a (with_component_in c (whole_of kind)) []
 
 -- the type of an element or a component, or a row of a matrix
-abbrev indexed_type : Bool → Ty → Option (Ty × Bool)
+abbrev pub indexed_type : Bool → Ty → Option (Ty × Bool)
 indexed_type true ty = Some (only Float, false)
 indexed_type false ty =
     if is_array ty then Some (element_type ty, false)
@@ -161,7 +161,7 @@ indexed_type false ty =
     else if is_only Matrix ty then Some (ty, true)
     else None
 
-abbrev indexed_kind : Bool → Kind → Option (Ty × Bool)
+abbrev pub indexed_kind : Bool → Kind → Option (Ty × Bool)
 indexed_kind is_row (Value ty) = indexed_type is_row ty
 indexed_kind is_row _ = None
 
@@ -173,11 +173,11 @@ index a i = do
   Some (record { form = with_index a.kind (tree_of number) a.form; kind = Value (to.0); zero_literal = false; is_row = to.1 })
 
 -- `.r .g .b` of a color, and `.x .y .z` of a point, a vector or a normal
-abbrev component_in : List ℕ → List ℕ → List ℕ → List ℕ → Option ℕ
+abbrev pub component_in : List ℕ → List ℕ → List ℕ → List ℕ → Option ℕ
 component_in first second third word =
     if bytes_eq word first then Some 0 else if bytes_eq word second then Some 1 else if bytes_eq word third then Some 2 else None
 
-abbrev component_of : Ty → List ℕ → Option ℕ
+abbrev pub component_of : Ty → List ℕ → Option ℕ
 component_of ty word =
     if is_only Color ty then component_in (codes "r") (codes "g") (codes "b") word
     else if is_one_triple ty then component_in (codes "x") (codes "y") (codes "z") word
@@ -186,7 +186,7 @@ component_of ty word =
 abbrev pub fields_of_structure : List StructureName → ℕ → List FieldName
 fields_of_structure structures m = elim (slice_get structures m) [ None ↦ [] | Some structure ↦ structure.fields ]
 
-abbrev selected_by : List StructureName → List ℕ → Found → Kind → Option Found
+abbrev pub selected_by : List StructureName → List ℕ → Found → Kind → Option Found
 selected_by structures word a (Value ty) = component_of ty word >>= λ c. Some (found (with_component a.kind c a.form) float)
 selected_by structures word a (Structure m) =
     field_named 0 (fields_of_structure structures m) word >>= λ field. Some (found (with_field a.kind (field.0) (field.1) a.form) (field.1))
@@ -202,22 +202,22 @@ plain_type (Value ty) = Some ty
 plain_type _ = None
 
 -- an operation on one operand, if the operand's type is fit for it
-abbrev applied : OpName → Found → (Ty → Bool) → (Ty → Ty) → Option Found
+abbrev pub applied : OpName → Found → (Ty → Bool) → (Ty → Ty) → Option Found
 applied name a test gives = do
   b ← expression a
   ty ← plain_type b.kind
   ok ← when (test ty)
   Some (value (e.Apply name (gives ty) (tree_of b ∷ [])) (Value (gives ty)))
 
-abbrev is_whole : Part → List TypedExpr → Bool
+abbrev pub is_whole : Part → List TypedExpr → Bool
 is_whole part indices = (length part.fields == 0) && not (is_some part.component) && (length indices == 0)
 
-abbrev whole_variable : Form → Option Root
+abbrev pub whole_variable : Form → Option Root
 whole_variable (Place root writable part indices) = if writable && is_whole part indices then Some root else None
 whole_variable _ = None
 
 -- `++` and `--` take a whole variable, of ints or of floats, that may be assigned
-abbrev stepped : Step → Found → Option Found
+abbrev pub stepped : Step → Found → Option Found
 stepped step a = do
   b ← expression a
   ty ← plain_type b.kind
@@ -238,7 +238,7 @@ postfixed after.Increment a = stepped IncrementAfter a
 postfixed after.Decrement a = stepped DecrementAfter a
 
 -- a value made another one of this type
-abbrev converted : Ty → Found → Option Found
+abbrev pub converted : Ty → Found → Option Found
 converted to a = do
   b ← expression a
   from ← plain_type b.kind
@@ -253,14 +253,14 @@ cast to a = converted (only (base_named to)) a
 abbrev pub trees : List Found → List TypedExpr
 trees args = map tree_of args
 
-abbrev are_numbers : List Found → Bool
+abbrev pub are_numbers : List Found → Bool
 are_numbers args = list_all (λ a. is_numeric a.kind) args
 
-abbrev made_of : OpName → Ty → List Found → Option Found
+abbrev pub made_of : OpName → Ty → List Found → Option Found
 made_of name ty args = when (are_numbers args) >>= λ ok. Some (value (e.Apply name ty (trees args)) (Value ty))
 
 -- a matrix of one number or of 16, a triple of three, and else what a cast makes of one value
-abbrev construct_from : Ty → List Found → Option Found
+abbrev pub construct_from : Ty → List Found → Option Found
 construct_from ty args =
     if is_only Matrix ty && (length args == 1 || length args == 16) then made_of op.Matrix ty args
     else if is_one_triple ty && (length args == 3) then made_of op.Triple ty args
@@ -271,17 +271,17 @@ construct to args = sequence (map expression args) >>= construct_from (only (bas
 
 -- ---- operators of two operands
 
-abbrev both_numbers : (TypedExpr → TypedExpr → TypedExpr) → Found → Found → Option Found
+abbrev pub both_numbers : (TypedExpr → TypedExpr → TypedExpr) → Found → Found → Option Found
 both_numbers node a b = when (is_numeric a.kind && is_numeric b.kind) >>= λ ok. Some (value (node (tree_of a) (tree_of b)) int)
 
-abbrev operated : BinaryOp → Found → Found → Option Found
+abbrev pub operated : BinaryOp → Found → Found → Option Found
 operated operator a b = do
   o ← operation operator a.kind b.kind
   left ← fit o.left a
   right ← fit o.right b
   Some (value (e.Apply o.op o.ty (left ∷ right ∷ [])) (Value o.ty))
 
-abbrev joined_by : BinaryOp → Found → Found → Option Found
+abbrev pub joined_by : BinaryOp → Found → Found → Option Found
 joined_by by.And a b = both_numbers e.And a b
 joined_by by.Or a b = both_numbers e.Or a b
 joined_by operator a b = operated operator a b
@@ -295,7 +295,7 @@ binary operator a b = do
 -- ---- choice
 
 -- as two operands, but that the literal 0 may be the empty closure
-abbrev common : Found → Found → Option Kind
+abbrev pub common : Found → Found → Option Kind
 common a b =
     if a.zero_literal && same_kind b.kind closure then Some closure
     else if b.zero_literal && same_kind a.kind closure then Some closure
@@ -320,22 +320,22 @@ pub record Target : Type 0 where
   pub part : Part
   pub indices : List TypedExpr
 
-abbrev target_form : Form → Option Target
+abbrev pub target_form : Form → Option Target
 target_form (Place root true part indices) = Some (record { root = root; part = part; indices = indices })
 target_form _ = None
 
-abbrev set_to : Found → Target → Found → Option Found
+abbrev pub set_to : Found → Target → Found → Option Found
 set_to a target b = fit a.kind b >>= λ right. Some (value (e.Assign target.root target.part target.indices right) a.kind)
 
 -- `x op= e` is `x = x op e`
-abbrev updated_by : BinaryOp → Found → Target → Found → Option Found
+abbrev pub updated_by : BinaryOp → Found → Target → Found → Option Found
 updated_by operator a target b = do
   o ← operation operator a.kind b.kind
   right ← fit o.right b
   ok ← when (is_some (cost (record { kind = Value o.ty; zero_literal = false; writable = false }) a.kind))
   Some (value (e.Update o.op o.ty target.root target.part target.indices right) a.kind)
 
-abbrev stored : Option BinaryOp → Found → Target → Found → Option Found
+abbrev pub stored : Option BinaryOp → Found → Target → Found → Option Found
 stored None a target b = set_to a target b
 stored (Some operator) a target b = updated_by operator a target b
 
@@ -348,7 +348,7 @@ assign operator a b = do
 
 -- ---- calls
 
-abbrev pass_to : Formal → Found → Option Argument
+abbrev pub pass_to : Formal → Found → Option Argument
 pass_to formal a =
     if formal.output then (target_form a.form >>= λ target. Some (Out target.root target.part target.indices))
     else (fit formal.kind a >>= λ x. Some (In x))
@@ -367,22 +367,22 @@ abbrev pub formal_kinds : List Formal → List Kind
 formal_kinds formals = map (λ formal. formal.kind) formals
 
 -- the length of `substr` where none is given
-abbrev longest : TypedExpr
+abbrev pub longest : TypedExpr
 longest = e.Int (pos 512)
 
-abbrev operation_call : OpName → Candidate → List Found → List TypedExpr → Option Found
+abbrev pub operation_call : OpName → Candidate → List Found → List TypedExpr → Option Found
 operation_call name c args more = do
   xs ← fit_all (formal_kinds c.signature.params) args
   ty ← plain_type c.signature.result
   Some (value (e.Apply name ty (xs ++ more)) c.signature.result)
 
-abbrev called_as : Callee → Candidate → List Found → Option Found
+abbrev pub called_as : Callee → Candidate → List Found → Option Found
 called_as (Declared f) c args = pass_all c.signature.params args >>= λ xs. Some (value (e.Call f c.signature.result xs) c.signature.result)
 called_as (Operation name) c args = operation_call name c args []
 called_as SubstrToEnd c args = operation_call op.SubStr c args (longest ∷ [])
 called_as Exit c args = Some (value e.Exit Void)
 
-abbrev kinds_of : List Found → List Kind
+abbrev pub kinds_of : List Found → List Kind
 kinds_of args = map (λ a. a.kind) args
 
 -- the functions of a name that a call with arguments of these kinds may mean
