@@ -1,0 +1,11 @@
+use Rattle.std.proofs.Common.{ℕ, ◌≡◌, ◌+◌, length}
+use Rattle.oso_read.proofs.Numbering.{for_some, for_none}
+use Rattle.oso_read.proofs.reader.Reader.new.Goals as goal
+
+pub invariant_of-result : goal.invariant_of-result
+invariant_of-result c =
+    let lines = c.next.new.self in
+    record {
+      here = for_some c.in_ok-number.number (λ (n : ℕ). lines.number ≡ n + 1) c.in_ok-number.ensures.here;
+      ended = for_none c.in_ok-number.number (length lines.rest.now ≡ 0) c.in_ok-number.ensures.ended;
+    }

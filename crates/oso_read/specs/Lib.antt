@@ -1,0 +1,16 @@
+pub mod Text
+pub mod Hints
+pub mod Literals
+pub mod Types
+pub mod Scan
+pub mod Unread
+pub mod SymbolNames
+pub mod SymbolLine
+pub mod OpLine
+pub mod Said
+pub mod Spelt
+pub mod Left
+pub mod Faults
+pub mod Finds
+pub mod Reading
+pub mod BodyLines

@@ -1,0 +1,34 @@
+//! The text of code, read to the shader that it spells.
+//!
+//! The model is `Spelt`: which bytes spell a shader, by the lines that are written of it (`specs/Spelt.antt`). Beside it
+//! `reading` goes from line to line, to the shader or to the first fault (`specs/Reading.antt`). `laws` says what holds of
+//! both.
+#![tactic(auto)]
+
+mod body;
+mod error;
+mod escape;
+mod fault;
+mod hints;
+pub mod laws;
+mod lines;
+mod name_table;
+mod number;
+mod op_line;
+mod owner;
+mod parts;
+mod place;
+mod reader;
+mod strings;
+mod symbol_line;
+mod table;
+#[cfg(test)]
+mod tests;
+mod types;
+mod unread;
+mod values;
+mod whole;
+mod words;
+
+pub use error::{OsoError, OsoKind};
+pub use whole::read;
