@@ -1,0 +1,12 @@
+pub mod Acting
+pub mod Chains
+pub mod Entries
+pub mod Frames
+pub mod Giving
+pub mod Keeping
+pub mod Laying
+pub mod Leaving
+pub mod Outcomes
+pub mod Reading
+pub mod Sections
+pub mod Starting

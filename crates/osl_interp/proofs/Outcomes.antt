@@ -1,0 +1,84 @@
+-- What a run that is done gives.
+use Rattle.std.proofs.Common.{◌≡◌, ℕ, zero, suc, ◌+◌, ◌<◌, ◌≤◌, ◌⊎◌, inl, inr, ⊎_elim, List, [], ◌∷◌, length, get_or, Some, true, ℤ, refl, sym, ap, ◌∙◌, arith}
+use Rattle.std.specs.Prelude.{slice_get, slice_set}
+use Rattle.std.proofs.Math.Seq.{map-set_same}
+use Rattle.std.proofs.lemmas.Option.{slice_get_within, slice_get_read}
+use Rattle.std.proofs.lemmas.Bool.{cases_lt}
+use Rattle.osl_value.specs.AnyValue.{argument}
+use Rattle.osl_apply.specs.declared.slot.Kind.{Kind}
+use Rattle.osl_apply.specs.declared.slot.Slot.{Slot}
+use Rattle.osl_apply.specs.Slots.{seen, is_kept}
+use Rattle.osl_apply.specs.Operands.{values}
+use Rattle.oso_code.specs.declared.symbol.Class.TheVariants.{Oparam}
+use Rattle.oso_code.specs.declared.symbol.Symbol.{Symbol}
+use Rattle.osl_apply.specs.declared.slot.Slot.TheVariants as W
+use Rattle.osl_interp.specs.Layers.{AreKept, IsDone, IsOutput, run_of}
+use Rattle.osl_interp.specs.declared.layer_run.LayerRun.{LayerRun}
+use Rattle.osl_interp.proofs.Laying.{length_values, held_is}
+
+-- the slots hold what they held, and the outputs before a place can be lent
+pub record Kept (symbols : List Symbol) (old new : List Slot) (at : ℕ) : Type 0 where
+  pub same : values new ≡ values old
+  pub kept : (k : ℕ) (symbol : Symbol) (slot : Slot) → k < at → slice_get symbols k ≡ Some symbol → symbol.class ≡ Oparam → slice_get new k ≡ Some slot → is_kept slot ≡ true
+
+pub kept_none : (symbols : List Symbol) (slots : List Slot) → Kept symbols slots slots 0
+kept_none symbols slots = record { same = refl; kept = λ k symbol slot lt at is there. absurd (omega (arith, lt)) }
+
+set_there : (slots : List Slot) (at k : ℕ) (y slot : Slot) → k ≡ at → slice_get (slice_set slots at y) k ≡ Some slot → slot ≡ y
+set_there [] at k y slot is h = absurd (cc h)
+set_there (s ∷ slots) zero zero y slot is h = cc h
+set_there (s ∷ slots) zero (suc k) y slot is h = absurd (omega (arith, is))
+set_there (s ∷ slots) (suc at) zero y slot is h = absurd (omega (arith, is))
+set_there (s ∷ slots) (suc at) (suc k) y slot is h = set_there slots at k y slot (omega (arith, is)) h
+
+set_elsewhere : (slots : List Slot) (at k : ℕ) (y : Slot) → k < at → slice_get (slice_set slots at y) k ≡ slice_get slots k
+set_elsewhere [] at k y lt = refl
+set_elsewhere (s ∷ slots) zero k y lt = absurd (omega (arith, lt))
+set_elsewhere (s ∷ slots) (suc at) zero y lt = refl
+set_elsewhere (s ∷ slots) (suc at) (suc k) y lt = set_elsewhere slots at k y (omega (arith, lt))
+
+some_symbol : (a b : Symbol) → Some a ≡ Some b → a ≡ b
+some_symbol a b h = cc
+
+-- one slot more
+pub kept_more : (symbols : List Symbol) (old new : List Slot) (at : ℕ) (symbol : Symbol) (d y : Slot) → Kept symbols old new at → slice_get symbols at ≡ Some symbol → seen y ≡ seen (get_or new at d) → (symbol.class ≡ Oparam → is_kept y ≡ true) → Kept symbols old (slice_set new at y) (at + 1)
+kept_more symbols old new at symbol d y so_far here same kept =
+    record {
+      same = map-set_same seen new at y d same ∙ so_far.same;
+      kept = λ k s slot lt there class held.
+          ⊎_elim (λ (below : k < at). so_far.kept k s slot below there class (sym (set_elsewhere new at k y below) ∙ held)) (λ (above : at ≤ k).
+          let e : k ≡ at = omega (arith, lt, above) in
+          let which = some_symbol symbol s (sym here ∙ ap (slice_get symbols) (sym e) ∙ there) in
+          ap is_kept (set_there new at k y slot e held) ∙ kept (ap (λ (q : Symbol). q.class) which ∙ class)) (cases_lt k at);
+    }
+
+pub kept_all : (symbols : List Symbol) (old new : List Slot) (at : ℕ) → Kept symbols old new at → length symbols ≤ at → AreKept symbols new
+kept_all symbols old new at so_far le k symbol slot there class held = let lt = slice_get_within symbols k symbol there in so_far.kept k symbol slot (omega (arith, le, lt)) there class held
+
+-- an output's slot
+pub never_small : (symbols : List Symbol) (slots : List Slot) (p : ℕ) (symbol : Symbol) (x : Slot) → AreKept symbols slots → slice_get symbols p ≡ Some symbol → symbol.class ≡ Oparam → p < length slots → x ≡ get_or slots p x → is_kept x ≡ true
+never_small symbols slots p symbol x kept at class lt is = kept p symbol x at class (slice_get_read slots (length slots) p x refl lt is)
+
+module _ (run : LayerRun) (p : ℕ) where
+  output_within : IsDone run → IsOutput (run_of run).code p → p < length run.machine.slots.items
+  output_within done out =
+      let lt = slice_get_within (run_of run).code.symbols p out.0 out.1 in
+      let s = done.laid.slots in let l = length_values run.machine.slots.items in
+      omega (arith, lt, s, l)
+
+  pub output_index : (n : ℕ) → IsDone run → IsOutput (run_of run).code p → n ≡ length run.machine.slots.items → p < n
+  output_index n done out is = let lt = output_within done out in omega (arith, lt, is)
+
+  -- the slot that is read
+  pub output_kept : (x : Slot) → IsDone run → IsOutput (run_of run).code p → x ≡ get_or run.machine.slots.items p x → is_kept x ≡ true
+  output_kept x done out is = never_small (run_of run).code.symbols run.machine.slots.items p out.0 x done.kept out.1 out.2 (output_within done out) is
+
+  pub output_is : (x y : Slot) → IsDone run → IsOutput (run_of run).code p → x ≡ get_or run.machine.slots.items p x → x ≡ y → argument (run_of run).values p ≡ seen y
+  output_is x y done out is same = held_is run.machine.slots.items p x (output_within done out) is ∙ ap seen same
+
+-- a slot that can be lent is none of the small ones
+pub small_is : (x : Slot) → is_kept x ≡ true → ((n : ℤ) × (x ≡ W.Int n)) ⊎ (((f : ℤ) × (x ≡ W.Float f)) ⊎ (((k : Kind) × (fs : _) × (x ≡ W.Triple k fs)) ⊎ ((t : _) × (x ≡ W.Str t)))) → ⊥
+small_is x kept (inl h) = let q = sym (ap is_kept h.1) ∙ kept in cc q
+small_is x kept (inr (inl h)) = let q = sym (ap is_kept h.1) ∙ kept in cc q
+small_is x kept (inr (inr (inl h))) = let q = sym (ap is_kept h.2) ∙ kept in cc q
+small_is x kept (inr (inr (inr h))) = let q = sym (ap is_kept h.1) ∙ kept in cc q

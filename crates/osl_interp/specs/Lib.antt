@@ -1,0 +1,7 @@
+pub mod Advances
+pub mod Decoded
+pub mod Known
+pub mod Layers
+pub mod Meaning
+pub mod Ready
+pub mod Starts

@@ -1,0 +1,130 @@
+//! From tables to shaders.
+
+ghost use Rattle.std.specs.Prelude.{◌≡◌, true};
+
+use osl_value::{Base, Memory, OpName, Text, Ty, Value};
+use oso_code::{Class, ListOf, Op, Raw, Section, Shader, ShaderKind, Symbol, validate};
+use std::alloc::Global;
+
+/// A value: its base type, its array's length, and its numbers (an int as itself, a float as its units) or its strings.
+pub type Sample = (Base, u32, &'static [i64], &'static [&'static str]);
+
+/// An op: its name, its arguments and its jumps.
+pub type Line = (OpName, &'static [u32], &'static [u32]);
+
+/// A section: its parameter, if it is not the body's, and where it begins and ends.
+pub type Part = (Option<u32>, u32, u32);
+
+pub fn text(alloc: Global, bytes: &[u8]) -> Result<Text, Memory> {
+    match Text::new(bytes.to_vec(alloc)?) {
+        Some(text) => Ok(text),
+        None => Err(Memory),
+    }
+}
+
+fn texts(alloc: Global, words: &[&str]) -> Result<Vec<Text>, Memory> {
+    let mut all = Vec::new(alloc);
+    for word in words {
+        all.push(text(alloc, word.as_bytes())?)?;
+    }
+    Ok(all)
+}
+
+pub fn value(alloc: Global, sample: &Sample) -> Result<Value, Memory> {
+    let (base, len, nums, words) = *sample;
+    let nums = nums.to_vec(alloc)?;
+    match Value::new(Ty { base, len }, nums, texts(alloc, words)?) {
+        Some(value) => Ok(value),
+        None => Err(Memory),
+    }
+}
+
+pub fn int(alloc: Global, n: i32) -> Result<Value, Memory> {
+    let mut value = Value::zero(alloc, Ty::only(Base::Int))?;
+    value.set_int(0, n);
+    Ok(value)
+}
+
+/// The zero of a type, which a closure has not.
+pub fn zero(alloc: Global, ty: Ty) -> Result<Option<Value>, Memory> {
+    match ty.base {
+        Base::Closure => Ok(None),
+        _ => {
+            if ty.len > 1024 {
+                return Err(Memory);
+            }
+            Ok(Some(Value::zero(alloc, ty)?))
+        }
+    }
+}
+
+pub fn symbol(
+    alloc: Global,
+    class: Class,
+    name: &str,
+    ty: Ty,
+    value: Option<Value>,
+) -> Result<Symbol, Memory> {
+    Ok(Symbol {
+        class,
+        ty,
+        name: text(alloc, name.as_bytes())?,
+        value,
+        metas: ListOf::new(Vec::new(alloc)),
+    })
+}
+
+pub fn op(alloc: Global, name: OpName, args: &[u32], jumps: &[u32]) -> Result<Op, Memory> {
+    Ok(Op {
+        name,
+        args: ListOf::new(args.to_vec(alloc)?),
+        jumps: ListOf::new(jumps.to_vec(alloc)?),
+    })
+}
+
+pub fn ops(alloc: Global, lines: &[Line]) -> Result<Vec<Op>, Memory> {
+    let mut all = Vec::new(alloc);
+    for line in lines {
+        let (name, args, jumps) = *line;
+        all.push(op(alloc, name, args, jumps)?)?;
+    }
+    Ok(all)
+}
+
+/// The body alone, as one section.
+pub fn body(alloc: Global, ops: &[Op]) -> Result<Vec<Section>, Memory> {
+    let mut all = Vec::new(alloc);
+    if ops.len() > 100 {
+        return Err(Memory);
+    }
+    all.push(Section {
+        param: None,
+        start: 0,
+        end: ops.len() as u32,
+    })?;
+    Ok(all)
+}
+
+/// The shader of these symbols, sections and ops; no memory where they are not valid.
+pub fn shader(
+    alloc: Global,
+    symbols: Vec<Symbol>,
+    sections: Vec<Section>,
+    ops: Vec<Op>,
+) -> Result<Shader, Memory> {
+    if symbols.len() > 100 || ops.len() > 100 {
+        return Err(Memory);
+    }
+    let raw = Raw {
+        kind: ShaderKind::Surface,
+        name: text(alloc, b"layer")?,
+        metas: ListOf::new(Vec::new(alloc)),
+        symbols: ListOf::new(symbols),
+        sections: ListOf::new(sections),
+        ops: ListOf::new(ops),
+    };
+    match validate(alloc, raw) {
+        Ok(shader) => Ok(shader),
+        Err(_refused) => Err(Memory),
+    }
+}
