@@ -136,6 +136,232 @@ static ROWS: [Row; 9] = [
     },
 ];
 
+/// A symbol: its class, its type, its name, and its number if it has a value.
+type Named = (Class, Base, u32, &'static str, Option<i64>);
+
+/// Symbols, and their first flaw.
+struct SymbolRow {
+    symbols: &'static [Named],
+    wrong: Option<FlawKind>,
+    at: u32,
+}
+
+const INPUT: Named = (Class::Param, Base::Float, 0, "a", Some(0));
+
+const LONG: &str =
+    "abcdefghijklmnopqrstuvwxyzabcdefghijklmnopqrstuvwxyzabcdefghijklmnopqrstuvwxyzabcdefghijklmnopqrstuvwxyzabcdefghijklmnopqrstuvwxyzabcdefghijklmnopqrstuvwxyzabcdefghijklmnopqrstuvwxyzabcdefghijklmnopqrstuvwxyzabcdefghijklmnopqrstuvwxyzabcdefghijklmnopqrstu";
+
+const LONGER: &str =
+    "abcdefghijklmnopqrstuvwxyzabcdefghijklmnopqrstuvwxyzabcdefghijklmnopqrstuvwxyzabcdefghijklmnopqrstuvwxyzabcdefghijklmnopqrstuvwxyzabcdefghijklmnopqrstuvwxyzabcdefghijklmnopqrstuvwxyzabcdefghijklmnopqrstuvwxyzabcdefghijklmnopqrstuvwxyzabcdefghijklmnopqrstuv";
+
+static SYMBOL_ROWS: [SymbolRow; 22] = [
+    SymbolRow {
+        symbols: &[],
+        wrong: None,
+        at: 0,
+    },
+    SymbolRow {
+        symbols: &[INPUT, (Class::Local, Base::Closure, 0, "$c.1_", None)],
+        wrong: None,
+        at: 0,
+    },
+    // Names: of 255 and of 256 bytes, none, and one that begins with a digit.
+    SymbolRow {
+        symbols: &[INPUT, (Class::Local, Base::Int, 0, LONG, None)],
+        wrong: None,
+        at: 0,
+    },
+    SymbolRow {
+        symbols: &[INPUT, (Class::Local, Base::Int, 0, LONGER, None)],
+        wrong: Some(FlawKind::Symbol),
+        at: 1,
+    },
+    SymbolRow {
+        symbols: &[INPUT, (Class::Local, Base::Int, 0, "", None)],
+        wrong: Some(FlawKind::Symbol),
+        at: 1,
+    },
+    SymbolRow {
+        symbols: &[INPUT, (Class::Local, Base::Int, 0, "1a", None)],
+        wrong: Some(FlawKind::Symbol),
+        at: 1,
+    },
+    // Two of one name: the later is at fault.
+    SymbolRow {
+        symbols: &[
+            INPUT,
+            (Class::Local, Base::Int, 0, "b", None),
+            (Class::Local, Base::Int, 0, "a", None),
+        ],
+        wrong: Some(FlawKind::Symbol),
+        at: 2,
+    },
+    // A parameter behind another symbol, and one with the name of the body.
+    SymbolRow {
+        symbols: &[
+            INPUT,
+            (Class::Local, Base::Int, 0, "b", None),
+            (Class::Oparam, Base::Int, 0, "r", Some(0)),
+        ],
+        wrong: Some(FlawKind::Symbol),
+        at: 2,
+    },
+    SymbolRow {
+        symbols: &[(Class::Param, Base::Int, 0, "___main___", Some(0))],
+        wrong: Some(FlawKind::Symbol),
+        at: 0,
+    },
+    SymbolRow {
+        symbols: &[(Class::Local, Base::Int, 0, "___main___", None)],
+        wrong: None,
+        at: 0,
+    },
+    // Globals: with their types, with another type, with another name, and with a value.
+    SymbolRow {
+        symbols: &[
+            (Class::Global, Base::Normal, 0, "N", None),
+            (Class::Global, Base::Float, 0, "u", None),
+        ],
+        wrong: None,
+        at: 0,
+    },
+    SymbolRow {
+        symbols: &[INPUT, (Class::Global, Base::Vector, 0, "N", None)],
+        wrong: Some(FlawKind::Symbol),
+        at: 1,
+    },
+    SymbolRow {
+        symbols: &[INPUT, (Class::Global, Base::Float, 0, "w", None)],
+        wrong: Some(FlawKind::Symbol),
+        at: 1,
+    },
+    SymbolRow {
+        symbols: &[INPUT, (Class::Global, Base::Float, 0, "u", Some(0))],
+        wrong: Some(FlawKind::Symbol),
+        at: 1,
+    },
+    // Values: a constant without one, a variable with one, and a parameter without one.
+    SymbolRow {
+        symbols: &[INPUT, (Class::Const, Base::Int, 0, "$0", None)],
+        wrong: Some(FlawKind::Symbol),
+        at: 1,
+    },
+    SymbolRow {
+        symbols: &[INPUT, (Class::Temp, Base::Int, 0, "t", Some(0))],
+        wrong: Some(FlawKind::Symbol),
+        at: 1,
+    },
+    SymbolRow {
+        symbols: &[INPUT, (Class::Oparam, Base::Int, 0, "r", None)],
+        wrong: Some(FlawKind::Symbol),
+        at: 1,
+    },
+    // Closures: a parameter has no value, a constant is none, and there are no arrays of them.
+    SymbolRow {
+        symbols: &[(Class::Param, Base::Closure, 0, "c", None)],
+        wrong: None,
+        at: 0,
+    },
+    SymbolRow {
+        symbols: &[INPUT, (Class::Const, Base::Closure, 0, "$c", None)],
+        wrong: Some(FlawKind::Symbol),
+        at: 1,
+    },
+    SymbolRow {
+        symbols: &[INPUT, (Class::Local, Base::Closure, 2, "c", None)],
+        wrong: Some(FlawKind::Symbol),
+        at: 1,
+    },
+    // Arrays: of 1,024 elements and of 1,025.
+    SymbolRow {
+        symbols: &[INPUT, (Class::Local, Base::Float, 1024, "b", None)],
+        wrong: None,
+        at: 0,
+    },
+    SymbolRow {
+        symbols: &[INPUT, (Class::Local, Base::Float, 1025, "b", None)],
+        wrong: Some(FlawKind::Symbol),
+        at: 1,
+    },
+];
+
+/// A section: its parameter, if it is not the body's, and where it begins and ends.
+type Part = (Option<u32>, u32, u32);
+
+/// Sections over four ops, and the place of their first flaw, where they have one.
+struct SectionRow {
+    sections: &'static [Part],
+    at: Option<u32>,
+}
+
+// The parameters are 0, 1 and 2, the value of 2 is not zero, and 3 is a constant.
+static SECTION_ROWS: [SectionRow; 14] = [
+    SectionRow {
+        sections: &[(None, 0, 4)],
+        at: None,
+    },
+    SectionRow {
+        sections: &[(Some(0), 0, 1), (Some(1), 1, 1), (None, 1, 4)],
+        at: None,
+    },
+    // There is none.
+    SectionRow {
+        sections: &[],
+        at: Some(0),
+    },
+    // The first begins behind the first op.
+    SectionRow {
+        sections: &[(None, 1, 4)],
+        at: Some(1),
+    },
+    // One begins behind the end of the one before it, or before it.
+    SectionRow {
+        sections: &[(Some(0), 0, 1), (None, 2, 4)],
+        at: Some(2),
+    },
+    SectionRow {
+        sections: &[(Some(0), 0, 3), (None, 2, 4)],
+        at: Some(2),
+    },
+    // The last ends before the ops do, or behind them.
+    SectionRow {
+        sections: &[(None, 0, 3)],
+        at: Some(3),
+    },
+    SectionRow {
+        sections: &[(Some(0), 0, 2), (None, 2, 5)],
+        at: Some(2),
+    },
+    // The last is a parameter's.
+    SectionRow {
+        sections: &[(Some(0), 0, 4)],
+        at: Some(4),
+    },
+    // One stands behind the body.
+    SectionRow {
+        sections: &[(None, 0, 2), (Some(0), 2, 3), (None, 3, 4)],
+        at: Some(2),
+    },
+    // Parameters stand in another order, or twice.
+    SectionRow {
+        sections: &[(Some(1), 0, 1), (Some(0), 1, 2), (None, 2, 4)],
+        at: Some(1),
+    },
+    SectionRow {
+        sections: &[(Some(0), 0, 1), (Some(0), 1, 2), (None, 2, 4)],
+        at: Some(1),
+    },
+    // The parameter has a value, or is none.
+    SectionRow {
+        sections: &[(Some(2), 0, 1), (None, 1, 4)],
+        at: Some(0),
+    },
+    SectionRow {
+        sections: &[(Some(3), 0, 1), (None, 1, 4)],
+        at: Some(0),
+    },
+];
+
 fn text(alloc: Global, bytes: &[u8]) -> Result<Text, Memory> {
     match Text::new(bytes.to_vec(alloc)?) {
         Some(text) => Ok(text),
@@ -270,6 +496,203 @@ fn a_copy_is_valid_too(rt: HostRuntime) -> Result<(), Fail> {
             assert_eq!(rt; copy.raw().name.bytes(), b"one".as_slice());
         }
         Err(_refused) => assert!(rt; false),
+    }
+    Ok(())
+}
+
+/// A symbol, with its number if it has one.
+fn named(alloc: Global, row: &Named) -> Result<Symbol, Memory> {
+    let (class, base, len, name, number) = *row;
+    let ty = Ty { base, len };
+    let value = match number {
+        Some(n) => {
+            let nums = vec![in alloc; n]?;
+            Value::new(ty, nums, Vec::new(alloc))
+        }
+        None => None,
+    };
+    Ok(Symbol {
+        class,
+        ty,
+        name: text(alloc, name.as_bytes())?,
+        value,
+        metas: ListOf::new(Vec::new(alloc)),
+    })
+}
+
+/// The code of a shader of this name, with these symbols, sections and ops.
+fn code_of(
+    alloc: Global,
+    name: &[u8],
+    symbols: Vec<Symbol>,
+    sections: Vec<Section>,
+    ops: Vec<Op>,
+) -> Result<Raw, Memory> {
+    Ok(Raw {
+        kind: ShaderKind::Shader,
+        name: text(alloc, name)?,
+        metas: ListOf::new(Vec::new(alloc)),
+        symbols: ListOf::new(symbols),
+        sections: ListOf::new(sections),
+        ops: ListOf::new(ops),
+    })
+}
+
+/// The body, up to a place.
+fn body(alloc: Global, end: u32) -> Result<Vec<Section>, Memory> {
+    let sections = vec![in alloc;
+        Section {
+            param: None,
+            start: 0,
+            end
+        },
+    ]?;
+    Ok(sections)
+}
+
+/// The first flaw, with 0 where there is none.
+fn first_flaw_of(alloc: Global, raw: Raw) -> Result<(Option<FlawKind>, u32), Memory> {
+    if raw.symbols.len() > 100_000 || raw.ops.len() > 100_000 {
+        return Err(Memory);
+    }
+    match validate(alloc, raw) {
+        Ok(_shader) => Ok((None, 0)),
+        Err((_raw, error)) => match error {
+            CodeError::Flaw { kind, at } => Ok((Some(kind), at)),
+            CodeError::Memory => Err(Memory),
+        },
+    }
+}
+
+fn symbols_flaw(alloc: Global, row: &SymbolRow) -> Result<(Option<FlawKind>, u32), Memory> {
+    let mut symbols = Vec::new(alloc);
+    for symbol in row.symbols {
+        symbols.push(named(alloc, symbol)?)?;
+    }
+    let raw = code_of(alloc, b"one", symbols, body(alloc, 0)?, Vec::new(alloc))?;
+    first_flaw_of(alloc, raw)
+}
+
+#[test]
+fn flaws_of_symbols_have_their_places(rt: HostRuntime) -> Result<(), Fail> {
+    let alloc = rt.alloc();
+    for (k, row) in SYMBOL_ROWS.iter().enumerate() {
+        let (wrong, at) = symbols_flaw(alloc, row)?;
+        assert!(rt; wrong == row.wrong, "row {k}");
+        assert_eq!(rt; at, row.at, "row {k}");
+    }
+    Ok(())
+}
+
+#[test]
+fn a_shader_has_a_name(rt: HostRuntime) -> Result<(), Fail> {
+    let alloc = rt.alloc();
+    let raw = code_of(
+        alloc,
+        b"1",
+        Vec::new(alloc),
+        body(alloc, 0)?,
+        Vec::new(alloc),
+    )?;
+    let (wrong, at) = first_flaw_of(alloc, raw)?;
+    assert!(rt; wrong == Some(FlawKind::Symbol));
+    assert_eq!(rt; at, 0);
+    Ok(())
+}
+
+/// So many ops that leave the layer.
+fn returns(alloc: Global, count: u32) -> Result<Vec<Op>, Memory> {
+    let mut ops = Vec::new(alloc);
+    for _i in 0..count {
+        ops.push(Op {
+            name: OpName::Return,
+            args: ListOf::new(Vec::new(alloc)),
+            jumps: ListOf::new(Vec::new(alloc)),
+        })?;
+    }
+    Ok(ops)
+}
+
+/// The first flaw of sections, over four ops.
+fn sections_flaw(alloc: Global, row: &SectionRow) -> Result<(Option<FlawKind>, u32), Memory> {
+    let symbols = vec![in alloc;
+        symbol(alloc, Class::Param, Base::Float, b"a", 0)?,
+        symbol(alloc, Class::Param, Base::Float, b"b", 0)?,
+        symbol(alloc, Class::Oparam, Base::Float, b"r", 1)?,
+        symbol(alloc, Class::Const, Base::Int, b"$0", 0)?,
+    ]?;
+    let mut sections = Vec::new(alloc);
+    for part in row.sections {
+        let (param, start, end) = *part;
+        sections.push(Section { param, start, end })?;
+    }
+    let raw = code_of(alloc, b"one", symbols, sections, returns(alloc, 4)?)?;
+    first_flaw_of(alloc, raw)
+}
+
+#[test]
+fn flaws_of_sections_have_their_places(rt: HostRuntime) -> Result<(), Fail> {
+    let alloc = rt.alloc();
+    for (k, row) in SECTION_ROWS.iter().enumerate() {
+        let (wrong, at) = sections_flaw(alloc, row)?;
+        match row.at {
+            Some(place) => {
+                assert!(rt; wrong == Some(FlawKind::Op), "row {k}");
+                assert_eq!(rt; at, place, "row {k}");
+            }
+            None => assert!(rt; wrong.is_none(), "row {k}"),
+        }
+    }
+    Ok(())
+}
+
+/// So many variables, at most 256, each an array of so many floats.
+fn arrays(alloc: Global, count: u32, len: u32) -> Result<Vec<Symbol>, Memory> {
+    let mut symbols = Vec::new(alloc);
+    for k in 0..count {
+        let mut name = Vec::new(alloc);
+        name.push(b'v')?;
+        for bit in 0..8u32 {
+            name.push(if k >> bit & 1 == 0 { b'0' } else { b'1' })?;
+        }
+        symbols.push(Symbol {
+            class: Class::Local,
+            ty: Ty {
+                base: Base::Float,
+                len,
+            },
+            name: text(alloc, name.as_slice())?,
+            value: None,
+            metas: ListOf::new(Vec::new(alloc)),
+        })?;
+    }
+    Ok(symbols)
+}
+
+/// Arrays of 1,024 floats, and ops, and whether they pass a limit.
+static LIMIT_ROWS: [(u32, u32, bool); 4] = [
+    (64, 0, false),
+    (65, 0, true),
+    (0, 65536, false),
+    (0, 65537, true),
+];
+
+#[test]
+fn limits_are_passed_by_one(rt: HostRuntime) -> Result<(), Fail> {
+    let alloc = rt.alloc();
+    for &(count, ops, passes) in &LIMIT_ROWS {
+        let symbols = arrays(alloc, count, 1024)?;
+        let raw = code_of(
+            alloc,
+            b"one",
+            symbols,
+            body(alloc, ops)?,
+            returns(alloc, ops)?,
+        )?;
+        let (wrong, at) = first_flaw_of(alloc, raw)?;
+        let limit = if passes { Some(FlawKind::Limit) } else { None };
+        assert!(rt; wrong == limit, "{count} arrays, {ops} ops");
+        assert_eq!(rt; at, 0);
     }
     Ok(())
 }
