@@ -1,0 +1,3 @@
+pub mod SameKinds
+pub mod Arguments
+pub mod Indices
