@@ -1,0 +1,10 @@
+pub mod Walks
+pub mod LengthLaws
+pub mod ConstancyLaws
+pub mod FileWalks
+pub mod Shaders
+pub mod TypingLaws
+pub mod Bodies
+pub mod Listing
+pub mod StatementLaws
+pub mod Goings

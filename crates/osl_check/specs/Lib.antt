@@ -1,0 +1,5 @@
+pub mod Adds
+pub mod Above
+pub mod FileParts
+pub mod Constancy
+pub mod BodyParts
