@@ -1,5 +1,5 @@
 -- Each text is one thing as a source, and each plan has one verdict.
-use Rattle.std.proofs.Common.{◌≡◌, ◌<◌, ◌≤◌, ℕ, List, length, Option, Some, None, Ok, Err, refl, ap, sym, ◌∙◌, subst, arith, ⊎_elim}
+use Rattle.std.proofs.Common.{◌≡◌, ◌<◌, ◌≤◌, ℕ, List, length, Option, Some, None, Result, Ok, Err, refl, ap, sym, ◌∙◌, subst, arith, ⊎_elim}
 use Rattle.std.proofs.lemmas.Bool.{cases_lt}
 use Rattle.std.proofs.lemmas.Option.{none-some, same_Some}
 use Rattle.osl_store.specs.Files.{Files}
@@ -10,7 +10,9 @@ use Rattle.osl_tree.specs.Lexical.{Tokens, FirstBad}
 use Rattle.osl_tree.specs.Lexemes.{lexemes}
 use Rattle.osl_tree.specs.Files.{Spells}
 use Rattle.osl_tree.specs.FileReading.{parsed}
-use Rattle.osl_tree.proofs.Parsed.{parsed_again, parsed_spells}
+use Rattle.osl_tree.proofs.Parsed.{parsed_again, parsed_spells, one_tree}
+use Rattle.osl_typed.specs.declared.shader.TypedShader.{TypedShader}
+use Rattle.osl_typed.specs.FileTyping.{typed, IsTypingOf}
 use Rattle.osl_lex.specs.declared.error.LexError.{LexError}
 use Rattle.osl_lex.specs.declared.error.LexError.TheVariants.{Bad}
 use Rattle.osl_lex.specs.Pieces.{IsFirstBad}
@@ -22,10 +24,12 @@ use Rattle.osl_parse.specs.declared.error.SyntaxError.TheVariants as errors
 use Rattle.osl_parse.specs.Reads.{IsNoTree}
 use Rattle.osl_parse.specs.Within.{LieWithin}
 use Rattle.osl_parse.proofs.Found.{lie_within}
+use Rattle.osl_typing.specs.declared.error.TypeError.{TypeError}
+use Rattle.osl_typing.specs.declared.error.TypeError.TheVariants as types
 use Rattle.osl_job.specs.declared.source.Source.{Source}
-use Rattle.osl_job.specs.declared.source.Source.TheVariants.{NoTokens, NoTree}
+use Rattle.osl_job.specs.declared.source.Source.TheVariants.{NoTokens, NoTree, NoTyping}
 use Rattle.osl_job.specs.Small.{small_shader}
-use Rattle.osl_job.specs.Source.{IsSource, no_tokens, no_tree, has_tree, built}
+use Rattle.osl_job.specs.Source.{IsSource, no_tokens, no_tree, no_typing, has_typing, built}
 use Rattle.osl_job.specs.Verdict.{Verdict}
 use Rattle.osl_job.specs.Plan.{Plan, Read, Judge, Settled, IsVerdict, settled, absent, too_large, read, judged}
 
@@ -39,11 +43,15 @@ bad_has_none text kind at bad tokens is =
 one_list : (text : List ℕ) (ts us : List Token) → Tokens text ts → Tokens text us → ts ≡ us
 one_list text ts us is js = let e : ◌≡◌ {A = Reading} (Ok ts) (Ok us) = one_reading_of text (Ok ts) (Ok us) is js in cc
 
+with_tree : (text : List ℕ) (tokens : List Token) (tree : Tree) (found : Option TypedShader) → Tokens text tokens → Spells tree text tokens → typed tree ≡ found → (source : Source) × IsSource text source
+with_tree text tokens tree None is spells e = (NoTyping, no_typing tokens tree is spells (λ t some. none-some t (sym e ∙ some)))
+with_tree text tokens tree (Some t) is spells e =
+    let source = built (small_shader (lexemes text tokens)) in
+    (source, has_typing tokens tree t source is spells e refl)
+
 with_tokens : (text : List ℕ) (tokens : List Token) (found : Option Tree) → Tokens text tokens → parsed (lexemes text tokens) ≡ found → (source : Source) × IsSource text source
 with_tokens text tokens None is e = (NoTree, no_tree tokens is (λ tree spells. none-some tree (sym e ∙ parsed_again tree text tokens spells)))
-with_tokens text tokens (Some tree) is e =
-    let source = built (small_shader (lexemes text tokens)) in
-    (source, has_tree tokens tree source is (parsed_spells tree text tokens e) refl)
+with_tokens text tokens (Some tree) is e = with_tree text tokens tree (typed tree) is (parsed_spells tree text tokens e) refl
 
 source_of : (text : List ℕ) (reading : Reading) → IsReading text reading → (source : Source) × IsSource text source
 source_of text (Ok tokens) is = with_tokens text tokens (parsed (lexemes text tokens)) is refl
@@ -52,16 +60,30 @@ source_of text (Err fault) is = (NoTokens, no_tokens (bad_has_none text fault.0 
 pub some_source : (text : List ℕ) → (source : Source) × IsSource text source
 some_source text = let found = some_reading_of text in source_of text found.0 found.1
 
+-- two spellings of one text are of one tree
+same_tree : (text : List ℕ) (ts us : List Token) (x y : Tree) → Tokens text ts → Tokens text us → Spells x text ts → Spells y text us → x ≡ y
+same_tree text ts us x y is js xs ys = one_tree x y text ts xs (subst (λ (vs : List Token). Spells y text vs) (one_list text us ts js is) ys)
+
+typing_differs : (tree other : Tree) (t : TypedShader) → tree ≡ other → ((u : TypedShader) → IsTypingOf tree u → ⊥) → IsTypingOf other t → ⊥
+typing_differs tree other t same none some = none t (ap typed same ∙ some)
+
 pub one_source : (text : List ℕ) (x y : Source) → IsSource text x → IsSource text y → x ≡ y
 one_source text _ _ (no_tokens none) (no_tokens _) = refl
 one_source text _ _ (no_tokens none) (no_tree us is _) = absurd (none us is)
-one_source text _ _ (no_tokens none) (has_tree us tree y is _ _) = absurd (none us is)
+one_source text _ _ (no_tokens none) (no_typing us tree is _ _) = absurd (none us is)
+one_source text _ _ (no_tokens none) (has_typing us tree t y is _ _ _) = absurd (none us is)
 one_source text _ _ (no_tree ts is _) (no_tokens none) = absurd (none ts is)
 one_source text _ _ (no_tree ts is _) (no_tree us js _) = refl
-one_source text _ _ (no_tree ts is none) (has_tree us tree y js spells _) = absurd (none tree (subst (λ (vs : List Token). Spells tree text vs) (one_list text us ts js is) spells))
-one_source text _ _ (has_tree ts tree x is _ _) (no_tokens none) = absurd (none ts is)
-one_source text _ _ (has_tree ts tree x is spells _) (no_tree us js none) = absurd (none tree (subst (λ (vs : List Token). Spells tree text vs) (one_list text ts us is js) spells))
-one_source text _ _ (has_tree ts tree x is _ e) (has_tree us other y js _ d) = e ∙ ap (λ vs. built (small_shader (lexemes text vs))) (one_list text ts us is js) ∙ sym d
+one_source text _ _ (no_tree ts is none) (no_typing us tree js spells _) = absurd (none tree (subst (λ (vs : List Token). Spells tree text vs) (one_list text us ts js is) spells))
+one_source text _ _ (no_tree ts is none) (has_typing us tree t y js spells _ _) = absurd (none tree (subst (λ (vs : List Token). Spells tree text vs) (one_list text us ts js is) spells))
+one_source text _ _ (no_typing ts tree is _ _) (no_tokens none) = absurd (none ts is)
+one_source text _ _ (no_typing ts tree is spells _) (no_tree us js none) = absurd (none tree (subst (λ (vs : List Token). Spells tree text vs) (one_list text ts us is js) spells))
+one_source text _ _ (no_typing ts tree is _ _) (no_typing us other js _ _) = refl
+one_source text _ _ (no_typing ts tree is xs none) (has_typing us other t y js ys some _) = absurd (typing_differs tree other t (same_tree text ts us tree other is js xs ys) none some)
+one_source text _ _ (has_typing ts tree t x is _ _ _) (no_tokens none) = absurd (none ts is)
+one_source text _ _ (has_typing ts tree t x is spells _ _) (no_tree us js none) = absurd (none tree (subst (λ (vs : List Token). Spells tree text vs) (one_list text ts us is js) spells))
+one_source text _ _ (has_typing ts tree t x is xs some _) (no_typing us other js ys none) = absurd (typing_differs other tree t (same_tree text us ts other tree js is ys xs) none some)
+one_source text _ _ (has_typing ts tree t x is _ _ e) (has_typing us other u y js _ _ d) = e ∙ ap (λ vs. built (small_shader (lexemes text vs))) (one_list text ts us is js) ∙ sym d
 
 -- the same, at what the code has in its hands
 
@@ -73,9 +95,14 @@ treeless_source text ts us error e is d none =
     let refused : IsNoTree {A = Tree} (Err error) = subst (λ (x : SyntaxError). IsNoTree {A = Tree} (Err x)) (sym d) tt in
     no_tree us (subst (λ (vs : List Token). Tokens text vs) (sym e) is) (none refused)
 
-pub spelled_source : (text : List ℕ) (ts us vs : List Token) (tree : Tree) (source : Source) → us ≡ ts → vs ≡ ts → Tokens text ts → Spells tree text us → source ≡ built (small_shader (lexemes text vs)) → IsSource text source
-spelled_source text ts us vs tree source e d is spells same =
-    has_tree us tree source (subst (λ (xs : List Token). Tokens text xs) (sym e) is) spells (same ∙ ap (λ xs. built (small_shader (lexemes text xs))) (d ∙ sym e))
+pub untyped_source : (text : List ℕ) (ts us : List Token) (tree : Tree) (error : TypeError) → us ≡ ts → Tokens text ts → Spells tree text us → error ≡ types.NoTyping
+    → (◌≡◌ {A = Result TypedShader TypeError} (Err error) (Err types.NoTyping) → (t : TypedShader) → IsTypingOf tree t → ⊥) → IsSource text NoTyping
+untyped_source text ts us tree error e is spells d none = no_typing us tree (subst (λ (xs : List Token). Tokens text xs) (sym e) is) spells (none (ap Err d))
+
+pub typed_source : (text : List ℕ) (ts us vs : List Token) (tree : Tree) (t : TypedShader) (source : Source) → us ≡ ts → vs ≡ ts → Tokens text ts → Spells tree text us → IsTypingOf tree t
+    → source ≡ built (small_shader (lexemes text vs)) → IsSource text source
+typed_source text ts us vs tree t source e d is spells some same =
+    has_typing us tree t source (subst (λ (xs : List Token). Tokens text xs) (sym e) is) spells some (same ∙ ap (λ xs. built (small_shader (lexemes text xs))) (d ∙ sym e))
 
 pub tokens_lie : (text : List ℕ) (ts us : List Token) → us ≡ ts → Tokens text ts → LieWithin text us
 tokens_lie text ts us e is = subst (λ (vs : List Token). LieWithin text vs) (sym e) (lie_within text 0 (length text) ts is)

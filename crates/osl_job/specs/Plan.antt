@@ -9,7 +9,7 @@ use Rattle.osl_job.specs.declared.words.Job.TheVariants as jobs
 use Rattle.osl_job.specs.declared.report.Refusal.{Refusal}
 use Rattle.osl_job.specs.declared.report.Refusal.TheVariants as why
 use Rattle.osl_job.specs.declared.source.Source.{Source}
-use Rattle.osl_job.specs.declared.source.Source.TheVariants.{NoTokens, NoTree, NotBuilt, Shader}
+use Rattle.osl_job.specs.declared.source.Source.TheVariants.{NoTokens, NoTree, NoTyping, NotBuilt, Shader}
 use Rattle.osl_job.specs.GroupText.{small_group, is_one_point}
 use Rattle.osl_job.specs.Source.{IsSource}
 use Rattle.osl_job.specs.Verdict.{AcceptedJob, Verdict, Refused, Accepted}
@@ -80,10 +80,11 @@ after_output group_file point_file group shader (Some output) =
     Read point_file point_limit (λ text.
     after_points point_file (record { shader = shader; layer = group.layer; param = group.param; output = output }) (is_one_point text))
 
--- A source is refused at the stage that it does not pass, `lex` or `syntax`.
+-- A source is refused at the stage that it does not pass, `lex`, `syntax` or `types`.
 abbrev pub after_source : (group_file point_file : List ℕ) → Group → Source → Plan
 after_source group_file point_file group NoTokens = file_refused why.Source (source_name group.shader) (codes ": lex")
 after_source group_file point_file group NoTree = file_refused why.Source (source_name group.shader) (codes ": syntax")
+after_source group_file point_file group NoTyping = file_refused why.Source (source_name group.shader) (codes ": types")
 after_source group_file point_file group NotBuilt = file_not_built (source_name group.shader)
 after_source group_file point_file group (Shader shader) = after_output group_file point_file group shader (output_named shader.params group.param)
 

@@ -5,26 +5,30 @@ use Rattle.osl_tree.specs.declared.tree.Tree.{Tree}
 use Rattle.osl_tree.specs.Lexical.{Tokens}
 use Rattle.osl_tree.specs.Lexemes.{lexemes}
 use Rattle.osl_tree.specs.Files.{Spells}
+use Rattle.osl_typed.specs.declared.shader.TypedShader.{TypedShader}
 use Rattle.osl_typed.specs.declared.tree.Typed.{Typed}
+use Rattle.osl_typed.specs.FileTyping.{IsTypingOf}
 use Rattle.osl_job.specs.declared.source.Source.{Source}
-use Rattle.osl_job.specs.declared.source.Source.TheVariants.{NoTokens, NoTree, NotBuilt, Shader}
+use Rattle.osl_job.specs.declared.source.Source.TheVariants.{NoTokens, NoTree, NoTyping, NotBuilt, Shader}
 use Rattle.osl_job.specs.Small.{small_shader}
 
--- a source that has a tree is built where its tokens spell a shader of the small form
+-- a source that has a typing is built where its tokens spell a shader of the small form
 abbrev pub built : Option Typed → Source
 built None = NotBuilt
 built (Some shader) = Shader shader
 
--- The text has no tokens; or it has tokens, and no tree spells them; or a tree spells its tokens.
+-- The text has no tokens; or it has tokens, and no tree spells them; or a tree spells its tokens, and has no typing; or the tree has one.
 pub data IsSource (text : List ℕ) : Source → Type 0 where
   no_tokens : ((tokens : List Token) → Tokens text tokens → ⊥) → IsSource text NoTokens
   no_tree : (tokens : List Token) → Tokens text tokens → ((tree : Tree) → Spells tree text tokens → ⊥) → IsSource text NoTree
-  has_tree : (tokens : List Token) (tree : Tree) (source : Source)
-      → Tokens text tokens → Spells tree text tokens → source ≡ built (small_shader (lexemes text tokens)) → IsSource text source
+  no_typing : (tokens : List Token) (tree : Tree) → Tokens text tokens → Spells tree text tokens → ((t : TypedShader) → IsTypingOf tree t → ⊥) → IsSource text NoTyping
+  has_typing : (tokens : List Token) (tree : Tree) (t : TypedShader) (source : Source)
+      → Tokens text tokens → Spells tree text tokens → IsTypingOf tree t → source ≡ built (small_shader (lexemes text tokens)) → IsSource text source
 
 -- a fact of the shader, where it is built
 abbrev pub IfShader : Source → (Typed → Type 0) → Type 0
 IfShader NoTokens P = Unit {0}
 IfShader NoTree P = Unit {0}
+IfShader NoTyping P = Unit {0}
 IfShader NotBuilt P = Unit {0}
 IfShader (Shader shader) P = P shader

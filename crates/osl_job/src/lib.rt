@@ -43,8 +43,8 @@ const NO_MEMORY: u8 = 9;
 /// Does what the words ask for, and answers the status. All printing follows the work, and each printed line is
 /// one `put`.
 ///
-/// The status is 0 where the job is done; 2 where the words spell no job; 3 where a source has no tokens or no
-/// tree; 6 where a file is absent; 7 where a read failed; 8 where a put failed; 9 where memory was refused; 10
+/// The status is 0 where the job is done; 2 where the words spell no job; 3 where a source has no tokens, no tree
+/// or no typing; 6 where a file is absent; 7 where a read failed; 8 where a put failed; 9 where memory was refused; 10
 /// where a file is too large; 11 where the words or a file ask for a form that is not built yet.
 pub fn run_plain<S: Store, K: Sink>(
     alloc: Global,

@@ -1,4 +1,4 @@
-//! A source, from its bytes on: its tokens, its tree, and what is built of it.
+//! A source, from its bytes on: its tokens, its tree, its typing, and what is built of it.
 
 ghost use Rattle.std.specs.Prelude.{◌≡◌, ◌≤◌, true, length, IfOk};
 ghost use Rattle.osl_tree.specs.Lexemes.{lexemes};
@@ -10,10 +10,12 @@ ghost use Rattle.osl_job.specs.Source.{IsSource, IfShader};
 
 use crate::shader::read_shader;
 use crate::text::Stop;
+use osl_check::check;
 use osl_lex::{LexError, lex};
 use osl_parse::{SyntaxError, parse};
 use osl_tree::token::Token;
 use osl_typed::Typed;
+use osl_typing::TypeError;
 use osl_value::Memory;
 use std::alloc::Global;
 
@@ -24,6 +26,8 @@ pub enum Source {
     NoTokens,
     /// No tree spells its tokens.
     NoTree,
+    /// Its tree has no typing.
+    NoTyping,
     /// Its form is not built yet.
     NotBuilt,
     /// This shader, of the small form.
@@ -42,14 +46,19 @@ pub fn read_source(alloc: Global, text: &[u8]) -> Result<Source, Memory>
         Err(LexError::Bad { .. }) => return Ok(Source::NoTokens),
         Err(LexError::Memory) => return Err(Memory),
     };
-    match parse(alloc, text, tokens.as_slice()) {
-        Ok(_tree) => Ok(built(alloc, text, tokens.as_slice())?),
-        Err(SyntaxError::NoTree) => Ok(Source::NoTree),
-        Err(SyntaxError::Memory) => Err(Memory),
+    let tree = match parse(alloc, text, tokens.as_slice()) {
+        Ok(tree) => tree,
+        Err(SyntaxError::NoTree) => return Ok(Source::NoTree),
+        Err(SyntaxError::Memory) => return Err(Memory),
+    };
+    match check(alloc, &tree) {
+        Ok(_typed) => Ok(built(alloc, text, tokens.as_slice())?),
+        Err(TypeError::NoTyping) => Ok(Source::NoTyping),
+        Err(TypeError::Memory) => Err(Memory),
     }
 }
 
-/// What is built of a source that has a tree.
+/// What is built of a source that has a typing.
 fn built(alloc: Global, text: &[u8], tokens: &[Token]) -> Result<Source, Memory>
     requires { LieWithin text.now tokens.now }
     ensures is { IfOk result (λ source. source ≡ spec.built (small_shader (lexemes text.now tokens.now))) }

@@ -86,6 +86,7 @@ fn with_group<S: Store>(
         Fetched::Bytes(text) => match read_source(alloc, text.as_slice())? {
             Source::NoTokens => Ok(refused_source(alloc, &name, b": lex")?),
             Source::NoTree => Ok(refused_source(alloc, &name, b": syntax")?),
+            Source::NoTyping => Ok(refused_source(alloc, &name, b": types")?),
             Source::NotBuilt => Ok(not_built(alloc, name.as_str())?),
             Source::Shader(shader) => {
                 Ok(with_shader(alloc, group_file, point_file, group, &shader, store)?)

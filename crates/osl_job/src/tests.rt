@@ -17,7 +17,7 @@ type Row = (
     &'static str,
 );
 
-static ROWS: [Row; 38] = [
+static ROWS: [Row; 39] = [
     (
         "shade g p",
         GROUP,
@@ -174,6 +174,14 @@ static ROWS: [Row; 38] = [
     (
         "shade g p",
         GROUP,
+        "shader add1(output float r = 0) { break; }",
+        "point",
+        3,
+        "add1.osl: types\n",
+    ),
+    (
+        "shade g p",
+        GROUP,
         "shader add1(output float r = 0,) { }",
         "point",
         11,
@@ -200,8 +208,8 @@ static ROWS: [Row; 38] = [
         GROUP,
         "shader add1(float a = 2) { a = 1.0; }",
         "point",
-        11,
-        "add1.osl: not built\n",
+        3,
+        "add1.osl: types\n",
     ),
     (
         "shade g p",
@@ -216,16 +224,16 @@ static ROWS: [Row; 38] = [
         GROUP,
         "shader add1(output float r = 0) { r = a; }",
         "point",
-        11,
-        "add1.osl: not built\n",
+        3,
+        "add1.osl: types\n",
     ),
     (
         "shade g p",
         GROUP,
         "shader add1(output float r = 0, float r = 1) { }",
         "point",
-        11,
-        "add1.osl: not built\n",
+        3,
+        "add1.osl: types\n",
     ),
     (
         "shade g p",

@@ -1,7 +1,7 @@
 use Rattle.std.proofs.Common.{◌∙◌, ap}
 use Rattle.std.specs.Prelude.{codes}
 use Rattle.osl_job.specs.declared.report.Refusal.TheVariants as why
-use Rattle.osl_job.specs.declared.source.Source.TheVariants.{NoTokens, NoTree, NotBuilt, Shader}
+use Rattle.osl_job.specs.declared.source.Source.TheVariants.{NoTokens, NoTree, NoTyping, NotBuilt, Shader}
 use Rattle.osl_job.specs.Plan.{after_source, source_name, source_limit}
 use Rattle.osl_job.proofs.Reports.{stops_at, source_at, of_source, of_form, content_reports, refused_at}
 use Rattle.osl_job.proofs.steps.with_group.Goals as goal
@@ -30,6 +30,16 @@ returns-in-NoTree-clause-report g c =
     c.as_slice-in-Bytes.ensures.value c.in-NoTree.is c.in_ok-read_source-in-Bytes.ensures.is
     (content_reports why.Source _ _ _ _ c.in_ok-refused_source-in-NoTree.field-0 of_source
     (refused_at why.Source _ (source_name c.args.group.now.shader) (codes ": syntax") _ name c.in_ok-refused_source-in-NoTree.ensures))
+
+pub returns-in-NoTyping-clause-report : goal.returns-in-NoTyping-clause-report
+returns-in-NoTyping-clause-report g c =
+    let name = c.in_ok-name.ensures ∙ ap source_name c.as_slice.ensures in
+    source_at _ (source_name c.args.group.now.shader) source_limit (after_source c.args.group_file.now c.args.point_file.now c.args.group.now) _ _ _ _ _ _ _
+    c.in_ok-report.field-0 c.in-Bytes.text _ c.in_ok-read_source-in-Bytes.field-0 NoTyping c.in_ok-refused_source-in-NoTyping.field-0
+    (c.as_str.ensures ∙ name) c.in-Bytes.is c.in_ok-report.ensures.fetched c.in_ok-report.ensures.within c.in_ok-report.ensures.store
+    c.as_slice-in-Bytes.ensures.value c.in-NoTyping.is c.in_ok-read_source-in-Bytes.ensures.is
+    (content_reports why.Source _ _ _ _ c.in_ok-refused_source-in-NoTyping.field-0 of_source
+    (refused_at why.Source _ (source_name c.args.group.now.shader) (codes ": types") _ name c.in_ok-refused_source-in-NoTyping.ensures))
 
 pub returns-in-NotBuilt-clause-report : goal.returns-in-NotBuilt-clause-report
 returns-in-NotBuilt-clause-report g c =
