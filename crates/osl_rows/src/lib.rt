@@ -1,8 +1,14 @@
-//! Tests that cross crates: rows of sources, with their tokens and the shapes of their trees. What is expected was
-//! written by hand, from the language's rules.
+//! Tests that cross crates: rows of sources, with their tokens, the shapes of their trees, and whether they have a typing.
+//! What is expected was written by hand, from the language's rules.
 #![tactic(auto)]
 
 #[cfg(test)]
 mod shape;
 #[cfg(test)]
 mod tests;
+#[cfg(test)]
+mod typing;
+
+/// The longest source that is read.
+#[cfg(test)]
+pub(crate) const LIMIT: usize = 1_048_576;

@@ -2,6 +2,7 @@
 
 ghost use Rattle.std.specs.Prelude.{◌≤◌, length};
 
+use crate::LIMIT;
 use crate::shape::Shape;
 use osl_lex::{LexError, lex};
 use osl_parse::{SyntaxError, parse};
@@ -207,9 +208,6 @@ static SOURCES: [(&str, &str); 19] = [
     ("shader s() { @ }", "BadByte 13"),
     ("#include \"stdosl.h\"\nshader s() {}", "Directive 0"),
 ];
-
-/// The longest source that is read.
-const LIMIT: usize = 1_048_576;
 
 /// The tokens of a source, or its first fault.
 fn tokens_of(alloc: Global, source: &str) -> Result<Shape, Memory>
