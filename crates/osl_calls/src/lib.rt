@@ -16,6 +16,3 @@ mod table;
 
 pub use calls::call;
 pub use functions::Functions;
-
-#[cfg(test)]
-mod tests;
