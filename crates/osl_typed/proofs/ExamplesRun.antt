@@ -1,4 +1,4 @@
--- What small shaders give, found by computing: sums, loops and their budget, places out of range, calls, `exit()`, closures.
+-- What small shaders give, found by computing: sums, loops and their budget, places out of range, calls, `exit()`, closures, steps, `&&` and `||`.
 use Rattle.std.proofs.Common.{◌≡◌, ℕ, refl, ◌∙◌}
 use Rattle.std.specs.Int.{int_wrap}
 use Rattle.std.specs.Prelude.{ℤ, pos, true, false, List, [], ◌∷◌, Option, None, Some, ◌==◌, if◌then◌else◌}
@@ -20,7 +20,7 @@ use Rattle.osl_tree.specs.declared.tree.ShaderKind.TheVariants as kinds
 use Rattle.osl_typed.specs.declared.expr.Root.{Root}
 use Rattle.osl_typed.specs.declared.expr.Root.TheVariants as root
 use Rattle.osl_typed.specs.declared.expr.Part as parts
-use Rattle.osl_typed.specs.declared.expr.Step.TheVariants.{IncrementFirst}
+use Rattle.osl_typed.specs.declared.expr.Step.TheVariants.{IncrementFirst, IncrementAfter}
 use Rattle.osl_typed.specs.Ends.{in_turn, loop}
 use Rattle.osl_typed.specs.Expressions.{whole}
 use Rattle.osl_typed.specs.Frames.{leaves_below, leaves_before}
@@ -104,7 +104,7 @@ checker = record {
   body = w.variable 4 (Value int) (cell globals.U)
       ∷ w.variable 5 (Value int) (cell globals.V)
       ∷ w.evaluate (w.set (own 3) (whole color) [] (w.choose (Value color)
-      (w.apply_to op.IRem int (w.apply_to op.Add int (read int 4 ∷ read int 5 ∷ []) ∷ w.int (pos 2) ∷ []))
+      (w.apply_to op.IRem int (w.paren (Value int) (w.apply_to op.Add int (read int 4 ∷ read int 5 ∷ [])) ∷ w.int (pos 2) ∷ []))
       (read color 2) (read color 1))) ∷ [];
 }
 
@@ -142,7 +142,7 @@ gloss = record {
   body = w.variable 2 (Value normal) (w.apply_to op.Normalize normal (global normal globals.N ∷ []))
       ∷ w.evaluate (w.set (root.Global globals.Ci) (whole closure) [] (w.apply_to op.Add closure (
       w.apply_to op.Mul closure (
-      w.apply_to op.Mul color (w.promote color (w.apply_to op.Sub float (w.promote float (w.int (pos 1)) ∷ read float 1 ∷ [])) ∷ read color 0 ∷ [])
+      w.apply_to op.Mul color (w.promote color (w.paren (Value float) (w.apply_to op.Sub float (w.promote float (w.int (pos 1)) ∷ read float 1 ∷ []))) ∷ read color 0 ∷ [])
       ∷ w.apply_to op.ClDiffuse closure (read normal 2 ∷ []) ∷ [])
       ∷ w.apply_to op.Mul closure (read float 1 ∷ w.apply_to op.ClReflection closure (read normal 2 ∷ w.number (pos 1500000000) ∷ []) ∷ []) ∷ []))) ∷ [];
 }
@@ -342,8 +342,9 @@ weighs = record {
   params = [];
   kinds = [];
   body = w.evaluate (w.set (root.Global globals.Ci) (whole closure) [] (w.apply_to op.Add closure (
-      times_closure (w.int (pos 3)) (times_closure (w.number (pos 333333333)) (times_closure (w.number (pos 500000000))
-      (w.apply_to op.ClDiffuse closure (global normal globals.N ∷ []))))
+      times_closure (w.int (pos 3)) (w.paren (Value closure) (
+      times_closure (w.number (pos 333333333)) (w.paren (Value closure) (
+      times_closure (w.number (pos 500000000)) (w.apply_to op.ClDiffuse closure (global normal globals.N ∷ []))))))
       ∷ times_closure (w.int (pos 0)) (w.apply_to op.ClEmission closure []) ∷ []))) ∷ [];
 }
 
@@ -359,7 +360,7 @@ unfolding leaves_below leaves_before leaves_at with_leaves in_order in_turn loop
 weighed = w.runs weighs defaults here 65536 ∙ refl
 
 -- ---- struct pair { float x; int n; };
--- pair twice(pair a) { a.x *= 2; a.n += 1; return a; }
+-- pair twice(pair a) { pair b = a; b.x *= 2; b.n += 1; return b; }
 -- shader pairs(output float r = 0, output int k = 0) { pair p = {1, 2}; p = twice(p); r = p.x; k = twice(p).n; }
 
 abbrev pair : Kind
@@ -375,10 +376,11 @@ abbrev twice : w.Routine
 twice = record {
   result = pair;
   formals = record { kind = pair; output = false } ∷ [];
-  kinds = pair ∷ [];
-  body = w.evaluate (w.update op.Mul float (own 0) (field 0 float) [] (w.promote float (w.int (pos 2))))
-      ∷ w.evaluate (w.update op.Add int (own 0) (field 1 int) [] (w.int (pos 1)))
-      ∷ w.give_back (w.part (own 0) all_of_pair []) ∷ [];
+  kinds = pair ∷ pair ∷ [];
+  body = w.variable 1 pair (w.part (own 0) all_of_pair [])
+      ∷ w.evaluate (w.update op.Mul float (own 1) (field 0 float) [] (w.promote float (w.int (pos 2))))
+      ∷ w.evaluate (w.update op.Add int (own 1) (field 1 int) [] (w.int (pos 1)))
+      ∷ w.give_back (w.part (own 1) all_of_pair []) ∷ [];
 }
 
 abbrev of_p : List w.Passes
@@ -424,3 +426,72 @@ skipped = w.runs skips defaults here 4 ∙ refl
 skipped_too_often : source_run (w.shader skips) defaults here 3 ≡ spent
 unfolding leaves_below leaves_before leaves_at with_leaves in_order in_turn loop types_on_the_way selected with_selected finals_from with_elements outputs_from w.routines_below w.defaults_written w.run_of apply root_by root_of int_wrap
 skipped_too_often = w.runs skips defaults here 3 ∙ refl
+
+-- ---- shader counts(output int before = 0, output int after = 0) { int i = 3; before = i++; after = i; }: the old value is given, and the new one stored
+
+abbrev counts : w.Whole
+counts = record {
+  structures = [];
+  functions = [];
+  kind = kinds.Generic;
+  params = record { output = true; ty = int; from = w.int (pos 0) } ∷ record { output = true; ty = int; from = w.int (pos 0) } ∷ [];
+  kinds = Value int ∷ Value int ∷ Value int ∷ [];
+  body = w.variable 2 (Value int) (w.int (pos 3))
+      ∷ w.evaluate (w.set (own 0) (whole int) [] (w.step IncrementAfter int (own 2)))
+      ∷ w.evaluate (w.set (own 1) (whole int) [] (read int 2)) ∷ [];
+}
+
+counted : source_run (w.shader counts) defaults here 65536 ≡ gives (Some (ints (pos 3 ∷ [])) ∷ Some (ints (pos 4 ∷ [])) ∷ [])
+unfolding leaves_below leaves_before leaves_at with_leaves in_order in_turn loop types_on_the_way selected with_selected finals_from with_elements outputs_from w.routines_below w.defaults_written w.run_of apply root_by root_of int_wrap
+counted = w.runs counts defaults here 65536 ∙ refl
+
+-- ---- shader guards(output int a = 0, output int b = 0, output int c = 0, output int d = 0, output int n = 0)
+-- { a = 0 && ++n; b = 2 || ++n; c = 3 && ++n; d = 0 || ++n; }: the right side is evaluated where the left one does not decide, and 1 stands for what holds
+
+abbrev zero_int : w.Given
+zero_int = record { output = true; ty = int; from = w.int (pos 0) }
+
+abbrev guards : w.Whole
+guards = record {
+  structures = [];
+  functions = [];
+  kind = kinds.Generic;
+  params = zero_int ∷ zero_int ∷ zero_int ∷ zero_int ∷ zero_int ∷ [];
+  kinds = Value int ∷ Value int ∷ Value int ∷ Value int ∷ Value int ∷ [];
+  body = w.evaluate (w.set (own 0) (whole int) [] (w.both (w.int (pos 0)) (w.step IncrementFirst int (own 4))))
+      ∷ w.evaluate (w.set (own 1) (whole int) [] (w.either (w.int (pos 2)) (w.step IncrementFirst int (own 4))))
+      ∷ w.evaluate (w.set (own 2) (whole int) [] (w.both (w.int (pos 3)) (w.step IncrementFirst int (own 4))))
+      ∷ w.evaluate (w.set (own 3) (whole int) [] (w.either (w.int (pos 0)) (w.step IncrementFirst int (own 4)))) ∷ [];
+}
+
+guarded : source_run (w.shader guards) defaults here 65536
+    ≡ gives (Some (ints (pos 0 ∷ [])) ∷ Some (ints (pos 1 ∷ [])) ∷ Some (ints (pos 1 ∷ [])) ∷ Some (ints (pos 1 ∷ [])) ∷ Some (ints (pos 2 ∷ [])) ∷ [])
+unfolding leaves_below leaves_before leaves_at with_leaves in_order in_turn loop types_on_the_way selected with_selected finals_from with_elements outputs_from w.routines_below w.defaults_written w.run_of apply root_by root_of int_wrap
+guarded = w.runs guards defaults here 65536 ∙ refl
+
+-- ---- float stop() { exit(); return 1; }
+-- shader early(output float p = 4, float a = stop(), output float r = 2) { r = 3; }: the layer ends in a default, and later defaults are not evaluated
+
+abbrev stopping : w.Routine
+stopping = record {
+  result = Value float;
+  formals = [];
+  kinds = [];
+  body = w.evaluate w.exit ∷ w.give_back (w.promote float (w.int (pos 1))) ∷ [];
+}
+
+abbrev early : w.Whole
+early = record {
+  structures = [];
+  functions = stopping ∷ [];
+  kind = kinds.Generic;
+  params = record { output = true; ty = float; from = w.promote float (w.int (pos 4)) }
+      ∷ record { output = false; ty = float; from = w.call 0 (Value float) [] }
+      ∷ record { output = true; ty = float; from = w.promote float (w.int (pos 2)) } ∷ [];
+  kinds = Value float ∷ Value float ∷ Value float ∷ [];
+  body = w.evaluate (w.set (own 2) (whole float) [] (w.promote float (w.int (pos 3)))) ∷ [];
+}
+
+ended_early : source_run (w.shader early) defaults here 65536 ≡ gives (Some (floats float (pos 4000000000 ∷ [])) ∷ None ∷ Some (floats float (pos 0 ∷ [])) ∷ [])
+unfolding leaves_below leaves_before leaves_at with_leaves in_order in_turn loop types_on_the_way selected with_selected finals_from with_elements outputs_from w.routines_below w.defaults_written w.run_of apply root_by root_of int_wrap
+ended_early = w.runs early defaults here 65536 ∙ refl

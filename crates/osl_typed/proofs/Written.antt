@@ -77,6 +77,14 @@ part_of kind a p ks = record {
       ∙ (λ i. expr_step frame calls (node.PartOf kind (a.same frame calls i) p (all_same frame calls ks i)));
 }
 
+-- `(a)`
+abbrev pub paren : Kind → Known → Known
+paren kind k = record {
+  tree = e.Paren kind k.tree;
+  means = λ frame calls. expr_step frame calls (node.Paren kind (k.means frame calls));
+  same = λ frame calls. laws.eval-Paren frame calls kind k.tree ∙ ap (λ m. expr_step frame calls (node.Paren kind m)) (k.same frame calls);
+}
+
 abbrev pub promote : Ty → Known → Known
 promote ty k = record {
   tree = e.Promote ty k.tree;
@@ -89,6 +97,22 @@ apply_to op ty ks = record {
   tree = e.Apply op ty (trees ks);
   means = λ frame calls. expr_step frame calls (node.Apply op ty (meanings frame calls ks));
   same = λ frame calls. laws.eval-Apply frame calls op ty (trees ks) ∙ ap (λ ms. expr_step frame calls (node.Apply op ty ms)) (all_same frame calls ks);
+}
+
+-- `a && b`
+abbrev pub both : Known → Known → Known
+both a b = record {
+  tree = e.And a.tree b.tree;
+  means = λ frame calls. expr_step frame calls (node.And (a.means frame calls) (b.means frame calls));
+  same = λ frame calls. laws.eval-And frame calls a.tree b.tree ∙ (λ i. expr_step frame calls (node.And (a.same frame calls i) (b.same frame calls i)));
+}
+
+-- `a || b`
+abbrev pub either : Known → Known → Known
+either a b = record {
+  tree = e.Or a.tree b.tree;
+  means = λ frame calls. expr_step frame calls (node.Or (a.means frame calls) (b.means frame calls));
+  same = λ frame calls. laws.eval-Or frame calls a.tree b.tree ∙ (λ i. expr_step frame calls (node.Or (a.same frame calls i) (b.same frame calls i)));
 }
 
 abbrev pub choose : Kind → Known → Known → Known → Known
