@@ -20,7 +20,7 @@ use osl_calls::Functions;
 use osl_names::{Scope, Structures};
 use osl_overload::Kind;
 use osl_tree::tree::{Datum, Shader, Tree};
-use osl_typed::{TypedDatum, TypedFunction, TypedParam, TypedShader, TypedStmt};
+use osl_typed::{Typed, TypedDatum, TypedFunction, TypedParam, TypedShader, TypedStmt};
 use osl_typing::TypeError;
 use sqlite_items::Items;
 use std::alloc::{AllocError, Global};
@@ -119,11 +119,12 @@ fn typed(alloc: Global, tree: &Tree) -> Result<TypedShader, TypeError>
     shader_typed(alloc, tree, &sight, functions)
 }
 
-/// The typed tree of a syntax tree. `NoTyping` comes exactly where it has none, and `Memory` where memory was refused, or
-/// where more than 2^32 - 1 variables, structures or functions are declared.
-pub fn check(alloc: Global, tree: &Tree) -> Result<TypedShader, TypeError>
+/// The typed tree of a syntax tree, with its sizes. `NoTyping` comes exactly where it has none, and `Memory` where memory
+/// was refused, or where more than 2^32 - 1 variables, structures or functions are declared.
+pub fn check(alloc: Global, tree: &Tree) -> Result<Typed, TypeError>
     ensures found { IfOk result (λ t. IsTypingOf tree.now t) }
     ensures none { result ≡ Err TypeError.NoTyping → (t : TypedShader) → IsTypingOf tree.now t → ⊥ }
 {
-    typed(alloc, tree)
+    let shader = typed(alloc, tree)?;
+    Ok(Typed::new(alloc, shader)?)
 }

@@ -65,9 +65,9 @@ fn one_parameter(rt: HostRuntime) -> Result<(), Fail> {
         match check(alloc, &tree) {
             Ok(typed) => {
                 assert!(rt; accepted, "{base:?} {name} = {number}");
-                assert_eq!(rt; typed.params.len(), 1);
-                assert_eq!(rt; typed.frame.len(), 1);
-                assert_eq!(rt; typed.body.len(), 1);
+                assert_eq!(rt; typed.shader().params.len(), 1);
+                assert_eq!(rt; typed.shader().frame.len(), 1);
+                assert_eq!(rt; typed.shader().body.len(), 1);
             }
             Err(e) => {
                 assert_eq!(rt; e, TypeError::NoTyping, "{base:?} {name} = {number}");

@@ -1,4 +1,5 @@
 pub mod Cutting
+pub mod Nodes
 pub mod Ops
 pub mod Reports
 pub mod Tied

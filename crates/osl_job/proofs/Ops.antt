@@ -8,15 +8,15 @@ use Rattle.std.proofs.lemmas.List.{reverse-append, drop_all, append-nil, get_or_
 use Rattle.std.proofs.lemmas.List.Folds.{list_all-append}
 use Rattle.std.proofs.Math.Seq.{drop-cons, get_or-append_seam}
 use Rattle.std.proofs.Math.ListN.{length-set}
-use Rattle.osl_typed.specs.declared.tree.OpName.{OpName}
-use Rattle.osl_typed.specs.declared.tree.Expr.{Expr}
-use Rattle.osl_typed.specs.declared.tree.Expr.TheVariants as e
-use Rattle.osl_typed.specs.declared.tree.Param.{Param}
-use Rattle.osl_typed.specs.declared.tree.Assignment.{Assignment}
-use Rattle.osl_typed.specs.declared.tree.Typed.{Typed}
-use Rattle.osl_typed.specs.Tree.{fits, assignment_fits}
-use Rattle.osl_typed.specs.Source.{Environment, zeros, write, eval, exec, hold_defaults}
-use Rattle.osl_typed.proofs.Nodes.{eval-Const, eval-Var, eval-Apply, fits-Var, fits-Apply}
+use Rattle.osl_job.specs.declared.small.SumOp.{SumOp}
+use Rattle.osl_job.specs.declared.small.Expr.{Expr}
+use Rattle.osl_job.specs.declared.small.Expr.TheVariants as e
+use Rattle.osl_job.specs.declared.small.Param.{Param}
+use Rattle.osl_job.specs.declared.small.Assignment.{Assignment}
+use Rattle.osl_job.specs.declared.small.SmallShader.{SmallShader}
+use Rattle.osl_job.specs.SmallNames.{fits, assignment_fits}
+use Rattle.osl_job.specs.SmallRun.{Environment, zeros, write, eval, exec, hold_defaults}
+use Rattle.osl_job.proofs.Nodes.{eval-Const, eval-Var, eval-Apply, fits-Var, fits-Apply}
 use Rattle.osl_job.specs.declared.code.Op.{Op}
 use Rattle.osl_job.specs.declared.code.Op.TheVariants.{Push, Load, Apply, Store}
 use Rattle.osl_job.specs.Code.{Machine, stored, act, run, op_fits, start, PushesValue, StoresValue, HoldsDefaults, Executes, StandsFor, Holds, IsMachine, Acts}
@@ -62,7 +62,7 @@ pushes_var k old new g = record {
   within = λ n f. both_true (nat_lt k n) true (sym (fits-Var n k) ∙ f) refl;
 }
 
-pub pushes_apply : (op : OpName) (a b : Expr) (old mid far new : List Op) → PushesValue a old mid → PushesValue b mid far → new ≡ far ++ Apply op ∷ [] → PushesValue (e.Apply op a b) old new
+pub pushes_apply : (op : SumOp) (a b : Expr) (old mid far new : List Op) → PushesValue a old mid → PushesValue b mid far → new ≡ far ++ Apply op ∷ [] → PushesValue (e.Apply op a b) old new
 pushes_apply op a b old mid far new p q g = record {
   added = (p.added ++ q.added) ++ Apply op ∷ [];
   grows = g ∙ ap (λ l. l ++ Apply op ∷ []) (q.grows ∙ ap (λ l. l ++ q.added) p.grows ∙ append_assoc old p.added q.added) ∙ append_assoc old (p.added ++ q.added) (Apply op ∷ []);
@@ -84,7 +84,7 @@ stores_value k x old mid new p g = record {
 }
 
 -- the same, of equal operands
-pub pushes_apply_of : (op : OpName) (a b x y : Expr) (old mid far new : List Op) → x ≡ a → y ≡ b → PushesValue x old mid → PushesValue y mid far → new ≡ far ++ Apply op ∷ []
+pub pushes_apply_of : (op : SumOp) (a b x y : Expr) (old mid far new : List Op) → x ≡ a → y ≡ b → PushesValue x old mid → PushesValue y mid far → new ≡ far ++ Apply op ∷ []
     → PushesValue (e.Apply op a b) old new
 pushes_apply_of op a b x y old mid far new p q u v g =
     pushes_apply op a b old mid far new (subst (λ (z : Expr). PushesValue z old mid) p u) (subst (λ (z : Expr). PushesValue z mid far) q v) g
@@ -170,7 +170,7 @@ body_all body i old now h d = record {
     machine_is : (m : Machine) (stack : List ℤ) (env : Environment) → m.stack ≡ stack → m.env ≡ env → m ≡ record { stack = stack; env = env }
     machine_is m stack env p q = ap (λ s. record { stack = s; env = m.env }) p ∙ ap (λ (x : Environment). record { stack = stack; env = x }) q
 
-pub stands_for : (t : Typed) (mid new : List Op) → HoldsDefaults t.params [] mid → Executes t.body mid new → StandsFor t new
+pub stands_for : (t : SmallShader) (mid new : List Op) → HoldsDefaults t.params [] mid → Executes t.body mid new → StandsFor t new
 stands_for t mid new d b =
     let is : new ≡ d.added ++ b.added = b.grows ∙ ap (λ l. l ++ b.added) d.grows in
     record {

@@ -20,9 +20,9 @@ use Rattle.osl_job.specs.declared.steps.Fetched.{Fetched}
 use Rattle.osl_job.specs.declared.steps.Fetched.TheVariants.{Bytes, Stops}
 use Rattle.osl_job.specs.Status.{code_of, refusal_code}
 use Rattle.osl_job.specs.Verdict.{AcceptedJob, out_text, Verdict, Refused, Accepted, line}
-use Rattle.osl_typed.specs.declared.tree.Param.{Param}
-use Rattle.osl_typed.specs.declared.tree.Typed.{Typed}
-use Rattle.osl_typed.specs.Tree.{output_named}
+use Rattle.osl_job.specs.declared.small.Param.{Param}
+use Rattle.osl_job.specs.declared.small.SmallShader.{SmallShader}
+use Rattle.osl_job.specs.SmallNames.{output_named}
 use Rattle.osl_job.specs.declared.text.Stop.{Stop}
 use Rattle.osl_job.specs.declared.text.Stop.TheVariants as stops
 use Rattle.osl_job.specs.Reader.{ReadsWhole}
@@ -49,15 +49,25 @@ text_of-split lines i x h is =
     ap text_of (sym (take-append-drop i lines) ∙ ap (λ l. take i lines ++ l) cut)
     ∙ flat_map-append (λ l. l.items) (take i lines) (x ∷ drop (i + 1) lines)
 
+-- the statuses of refusals are no others
+code_range : (w : Refusal) → (refusal_code w ≢ 0) × (refusal_code w ≢ 7)
+code_range why.Usage = (λ e. omega arith, λ e. omega arith)
+code_range why.Source = (λ e. omega arith, λ e. omega arith)
+code_range why.Absent = (λ e. omega arith, λ e. omega arith)
+code_range why.TooLarge = (λ e. omega arith, λ e. omega arith)
+code_range why.NotBuilt = (λ e. omega arith, λ e. omega arith)
+
 -- nothing is a front of each text
-pub nothing_written : (plan : Plan) (files : Files) (old : Option (List ℕ)) → WritesFront old old (IsText plan files)
-nothing_written plan files old = let found = some_verdict plan files in some_text found.0 found.1
+pub nothing_written : (plan : Plan) (files : Files) (before now : Counts) (old : Option (List ℕ)) → WritesFront old old (IsText plan files before now)
+nothing_written plan files before now old = let found = some_verdict plan files in some_text found.0 found.1
   where
-    some_text : (v : Verdict) → IsVerdict files plan v → WritesFront old old (IsText plan files)
+    some_text : (v : Verdict) → IsVerdict files plan v → WritesFront old old (IsText plan files before now)
     some_text (Refused w text) is =
-        (line text, (refusal_code w, is_refused w refl (record { refusal = text; refused = is; wrote = refl })), (0, omega arith, appends-nothing old))
+        let report = is_refused w refl (record { refusal = text; refused = is; wrote = refl }) in
+        (line text, record { status = refusal_code w; report = report; read_fault = λ e. absurd ((code_range w).1 e) }, (0, omega arith, appends-nothing old))
     some_text (Accepted job) is =
-        (out_text job, (0, is_done refl (record { job = job; accepted = is; shown = refl })), (0, omega arith, appends-nothing old))
+        let report = is_done refl (record { job = job; accepted = is; shown = refl }) in
+        (out_text job, record { status = 0; report = report; read_fault = λ e. omega (arith, e) }, (0, omega arith, appends-nothing old))
 
 -- ---- one step
 
@@ -191,13 +201,6 @@ complete_from_report plan files s text (is_done a b) n = record { verdict = Acce
 complete_from_report plan files s text (is_refused w a b) n = record { verdict = Refused w b.refusal; judged = b.refused; is = a }
 complete_from_report plan files s text (is_fault a b) n = absurd (n a)
 
-code_range : (w : Refusal) → (refusal_code w ≢ 0) × (refusal_code w ≢ 7)
-code_range why.Usage = (λ e. omega arith, λ e. omega arith)
-code_range why.Source = (λ e. omega arith, λ e. omega arith)
-code_range why.Absent = (λ e. omega arith, λ e. omega arith)
-code_range why.TooLarge = (λ e. omega arith, λ e. omega arith)
-code_range why.NotBuilt = (λ e. omega arith, λ e. omega arith)
-
 pub done_from_report : (plan : Plan) (files : Files) (s : ℕ) (text : List ℕ) → IsReport plan files s text → s ≡ 0 → IsDone plan files text
 done_from_report plan files s text (is_done a b) e = b
 done_from_report plan files s text (is_refused w a b) e = absurd ((code_range w).0 (sym a ∙ e))
@@ -257,7 +260,7 @@ longer_file told file limit e m = subst (λ (t : Option (Option (List ℕ))). Is
 pub found_is : (ps qs : List Param) (a b : List ℕ) (o p : Option ℕ) → qs ≡ ps → b ≡ a → o ≡ output_named qs b → o ≡ p → output_named ps a ≡ p
 found_is ps qs a b o p e f h g = ap (λ x. output_named x a) (sym e) ∙ ap (output_named qs) (sym f) ∙ sym h ∙ g
 
-pub with_output : (gf pf : List ℕ) (g : Group) (s : Typed) (o p : Option ℕ) (told : List ℕ → Told) (before now : Counts) (r : Report) → o ≡ p → Reports (after_output gf pf g s p) told before now r
+pub with_output : (gf pf : List ℕ) (g : Group) (s : SmallShader) (o p : Option ℕ) (told : List ℕ → Told) (before now : Counts) (r : Report) → o ≡ p → Reports (after_output gf pf g s p) told before now r
     → Reports (after_output gf pf g s o) told before now r
 with_output gf pf g s o p told before now r e reports = subst (λ (x : Option ℕ). Reports (after_output gf pf g s x) told before now r) (sym e) reports
 

@@ -4,13 +4,13 @@ use Rattle.std.specs.Prelude.{ℤ}
 use Rattle.std.specs.List.{list_all}
 use Rattle.std.proofs.lemmas.Bool.{lt-ltb}
 use Rattle.std.proofs.lemmas.List.Folds.{list_all-append}
-use Rattle.osl_typed.specs.declared.tree.OpName.{OpName}
-use Rattle.osl_typed.specs.declared.tree.Expr.{Expr}
-use Rattle.osl_typed.specs.declared.tree.Expr.TheVariants.{Const, Var, Apply}
-use Rattle.osl_typed.specs.declared.tree.Param.{Param}
-use Rattle.osl_typed.specs.declared.tree.Assignment.{Assignment}
-use Rattle.osl_typed.specs.Tree.{fits, assignment_fits}
-use Rattle.osl_typed.proofs.Nodes.{fits-Const, fits-Var, fits-Apply}
+use Rattle.osl_job.specs.declared.small.SumOp.{SumOp}
+use Rattle.osl_job.specs.declared.small.Expr.{Expr}
+use Rattle.osl_job.specs.declared.small.Expr.TheVariants.{Const, Var, Apply}
+use Rattle.osl_job.specs.declared.small.Param.{Param}
+use Rattle.osl_job.specs.declared.small.Assignment.{Assignment}
+use Rattle.osl_job.specs.SmallNames.{fits, assignment_fits}
+use Rattle.osl_job.proofs.Nodes.{fits-Const, fits-Var, fits-Apply}
 use Rattle.osl_job.specs.Small.{AreTied}
 use Rattle.osl_job.proofs.Ops.{both_true}
 
@@ -20,7 +20,7 @@ var_tied n k h = fits-Var n k ∙ lt-ltb k n h
 pub const_tied : (n : ℕ) (v : ℤ) → fits n (Const v) ≡ true
 const_tied n v = fits-Const n v
 
-pub apply_tied : (n : ℕ) (op : OpName) (a b e : Expr) → e ≡ Apply op a b → fits n a ≡ true → fits n b ≡ true → fits n e ≡ true
+pub apply_tied : (n : ℕ) (op : SumOp) (a b e : Expr) → e ≡ Apply op a b → fits n a ≡ true → fits n b ≡ true → fits n e ≡ true
 apply_tied n op a b e is p q = ap (fits n) is ∙ fits-Apply n op a b ∙ both_true (fits n a) (fits n b) p q
 
 pub assignment_tied : (n : ℕ) (a : Assignment) → a.target < n → fits n a.value ≡ true → assignment_fits n a ≡ true

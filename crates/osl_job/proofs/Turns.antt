@@ -5,11 +5,11 @@ use Rattle.osl_tree.specs.declared.token.Punct.TheVariants as p
 use Rattle.osl_tree.specs.declared.mark.Mark.TheVariants as m
 use Rattle.osl_tree.specs.Lexeme.{Lexeme}
 use Rattle.osl_tree.specs.Parser.{◌>>=◌, and_then, pure, eat, take_as}
-use Rattle.osl_typed.specs.declared.tree.OpName.{OpName}
-use Rattle.osl_typed.specs.declared.tree.Expr.{Expr}
-use Rattle.osl_typed.specs.declared.tree.Expr.TheVariants.{Apply}
-use Rattle.osl_typed.specs.declared.tree.Param.{Param}
-use Rattle.osl_typed.specs.declared.tree.Assignment.{Assignment}
+use Rattle.osl_job.specs.declared.small.SumOp.{SumOp}
+use Rattle.osl_job.specs.declared.small.Expr.{Expr}
+use Rattle.osl_job.specs.declared.small.Expr.TheVariants.{Apply}
+use Rattle.osl_job.specs.declared.small.Param.{Param}
+use Rattle.osl_job.specs.declared.small.Assignment.{Assignment}
 use Rattle.osl_job.specs.declared.text.Stop.{Stop}
 use Rattle.osl_job.specs.declared.text.Stop.TheVariants.{NotBuilt, Memory}
 use Rattle.osl_job.specs.Reader.{Reads}
@@ -25,13 +25,13 @@ stops r s NotBuilt a b f p = f p
 stops r s Memory a b f p = tt
 
 -- one more operand
-operands_step : (params : List Param) (room : ℕ) (sum next : Expr) (op : OpName) (a b c : List Lexeme)
+operands_step : (params : List Param) (room : ℕ) (sum next : Expr) (op : SumOp) (a b c : List Lexeme)
     → take_as sign_of a ≡ Some (Some op, b) → token (operand_of params) b ≡ Some (next, c) → more_operands params (suc room) sum a ≡ more_operands params room (Apply op sum next) c
 unfolding more_operands
 operands_step params room sum next op a b c sign is =
     ap (λ r. and_then r (joined params sum (more_operands params room))) sign ∙ ap (λ r. and_then r (λ n. more_operands params room (Apply op sum n))) is
 
-pub operands_turn : (params : List Param) (room turn : ℕ) (sum next : Expr) (op : OpName) (a b c : List Lexeme)
+pub operands_turn : (params : List Param) (room turn : ℕ) (sum next : Expr) (op : SumOp) (a b c : List Lexeme)
     → turn < room → take_as sign_of a ≡ Some (Some op, b) → token (operand_of params) b ≡ Some (next, c)
     → more_operands params (room - turn) sum a ≡ more_operands params (room - (turn + 1)) (Apply op sum next) c
 operands_turn params room turn sum next op a b c h sign is =

@@ -1,13 +1,13 @@
 -- The ops that a shader becomes, and what they do to a stack and to the variables. Its top stands first.
 use Rattle.std.specs.Prelude.{◌≡◌, ◌<◌, ◌≤◌, ℕ, Bool, true, nat_lt, List, [], ◌∷◌, ◌++◌, length, slice_index_or, reverse, ℤ, pos}
 use Rattle.std.specs.List.{list_all}
-use Rattle.osl_typed.specs.declared.tree.OpName.{OpName}
-use Rattle.osl_typed.specs.declared.tree.Expr.{Expr}
-use Rattle.osl_typed.specs.declared.tree.Typed.{Typed}
-use Rattle.osl_typed.specs.declared.tree.Param.{Param}
-use Rattle.osl_typed.specs.declared.tree.Assignment.{Assignment}
-use Rattle.osl_typed.specs.Tree.{fits, assignment_fits, is_tied}
-use Rattle.osl_typed.specs.Source.{Environment, write, apply, eval, exec, hold_defaults, zeros, source_run}
+use Rattle.osl_job.specs.declared.small.SumOp.{SumOp}
+use Rattle.osl_job.specs.declared.small.Expr.{Expr}
+use Rattle.osl_job.specs.declared.small.SmallShader.{SmallShader}
+use Rattle.osl_job.specs.declared.small.Param.{Param}
+use Rattle.osl_job.specs.declared.small.Assignment.{Assignment}
+use Rattle.osl_job.specs.SmallNames.{fits, assignment_fits, is_tied}
+use Rattle.osl_job.specs.SmallRun.{Environment, write, apply, eval, exec, hold_defaults, zeros, small_run}
 use Rattle.osl_job.specs.declared.code.State.{State}
 use Rattle.osl_job.specs.declared.code.Op.{Op}
 use Rattle.osl_job.specs.declared.code.Op.TheVariants.{Push, Load, Apply, Store}
@@ -17,7 +17,7 @@ pub record Machine : Type 0 where
   pub env : Environment
 
 -- an operation on the two topmost values, of which the second operand is the top
-abbrev pub applied : OpName → List ℤ → List ℤ
+abbrev pub applied : SumOp → List ℤ → List ℤ
 applied op [] = []
 applied op (b ∷ []) = b ∷ []
 applied op (b ∷ a ∷ rest) = apply op a b ∷ rest
@@ -79,8 +79,8 @@ pub record Executes (body : List Assignment) (old new : List Op) : Type 0 where
   pub within : (n : ℕ) → list_all (assignment_fits n) body ≡ true → list_all (op_fits n) added ≡ true
 
 -- The ops leave the variables as a run of the shader from its source does.
-pub record StandsFor (t : Typed) (ops : List Op) : Type 0 where
-  pub runs : (run ops start).env ≡ source_run t
+pub record StandsFor (t : SmallShader) (ops : List Op) : Type 0 where
+  pub runs : (run ops start).env ≡ small_run t
   pub within : is_tied t ≡ true → list_all (op_fits (length t.params)) ops ≡ true
 
 -- ---- the machine in memory

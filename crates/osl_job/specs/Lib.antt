@@ -1,6 +1,8 @@
 pub mod Text
 pub mod Reader
 pub mod GroupText
+pub mod SmallNames
+pub mod SmallRun
 pub mod Small
 pub mod Source
 pub mod Code

@@ -1,8 +1,8 @@
 -- What a job reads, in order, and what follows from each.
 use Rattle.std.specs.Prelude.{◌≡◌, ◌<◌, ◌≤◌, ℕ, Bool, true, false, List, ◌++◌, length, codes, Option, Some, None}
 use Rattle.osl_store.specs.Files.{Files}
-use Rattle.osl_typed.specs.declared.tree.Typed.{Typed}
-use Rattle.osl_typed.specs.Tree.{output_named}
+use Rattle.osl_job.specs.declared.small.SmallShader.{SmallShader}
+use Rattle.osl_job.specs.SmallNames.{output_named}
 use Rattle.osl_job.specs.declared.group.Group.{Group}
 use Rattle.osl_job.specs.declared.words.Job.{Job}
 use Rattle.osl_job.specs.declared.words.Job.TheVariants as jobs
@@ -13,6 +13,7 @@ use Rattle.osl_job.specs.declared.source.Source.TheVariants.{NoTokens, NoTree, N
 use Rattle.osl_job.specs.GroupText.{small_group, is_one_point}
 use Rattle.osl_job.specs.Source.{IsSource}
 use Rattle.osl_job.specs.Verdict.{AcceptedJob, Verdict, Refused, Accepted}
+use Rattle.osl_job.specs.Words.{Words, job_of}
 
 -- A job reads a file of at most so many bytes and goes on with them; or it goes on with what a source's text is; or its verdict is settled.
 pub data Plan : Type 0 where
@@ -74,7 +75,7 @@ after_points point_file job true = Settled (Accepted job)
 after_points point_file job false = file_not_built point_file
 
 -- The asked parameter is an output of the shader, or the group is not built; then the points are read.
-abbrev pub after_output : (group_file point_file : List ℕ) → Group → Typed → Option ℕ → Plan
+abbrev pub after_output : (group_file point_file : List ℕ) → Group → SmallShader → Option ℕ → Plan
 after_output group_file point_file group shader None = file_not_built group_file
 after_output group_file point_file group shader (Some output) =
     Read point_file point_limit (λ text.
@@ -101,3 +102,7 @@ abbrev pub plan_of : Option Job → Plan
 plan_of None = Settled (Refused why.Usage (codes "usage"))
 plan_of (Some jobs.NotBuilt) = Settled (Refused why.NotBuilt (codes "not built"))
 plan_of (Some (jobs.Shade group points)) = shade_plan group points
+
+-- the plan of the job that the words spell
+abbrev pub plan_for : Words → Plan
+plan_for words = plan_of (job_of words)

@@ -55,9 +55,11 @@ pub data IsReport (plan : Plan) (files : Files) (status : ℕ) (text : List ℕ)
   is_refused : (why : Refusal) → status ≡ refusal_code why → IsRefusal why plan files text → IsReport plan files status text
   is_fault : status ≡ read_fault → IsReadFault plan files text → IsReport plan files status text
 
--- a text of the job: what it may print, or the line of a refusal or of a read that failed
-abbrev pub IsText : Plan → Files → List ℕ → Type 0
-IsText plan files text = (status : ℕ) × IsReport plan files status text
+-- a text of the job: what it may print, or the line of a refusal, or that of a read that failed, where the count of those rose
+pub record IsText (plan : Plan) (files : Files) (before now : Counts) (text : List ℕ) : Type 0 where
+  pub status : ℕ
+  pub report : IsReport plan files status text
+  pub read_fault : status ≡ read_fault → Rose before.faults now.faults
 
 -- this is the status of the job's verdict
 pub record IsStatus (plan : Plan) (files : Files) (status : ℕ) : Type 0 where

@@ -9,14 +9,14 @@ use Rattle.osl_tree.specs.declared.mark.Mark.TheVariants as m
 use Rattle.osl_tree.specs.Lexeme.{Lexeme}
 use Rattle.osl_tree.specs.Lexeme as l
 use Rattle.osl_tree.specs.Parser.{Parser, ◌>>=◌, ◌>>◌, pure, eat, expect, first, rest, name_of, required, take_as}
-use Rattle.osl_typed.specs.declared.tree.OpName.{OpName}
-use Rattle.osl_typed.specs.declared.tree.OpName.TheVariants.{Add, Sub}
-use Rattle.osl_typed.specs.declared.tree.Expr.{Expr}
-use Rattle.osl_typed.specs.declared.tree.Expr.TheVariants.{Const, Var, Apply}
-use Rattle.osl_typed.specs.declared.tree.Param.{Param}
-use Rattle.osl_typed.specs.declared.tree.Assignment.{Assignment}
-use Rattle.osl_typed.specs.declared.tree.Typed.{Typed}
-use Rattle.osl_typed.specs.Tree.{param_named, output_named, fits}
+use Rattle.osl_job.specs.declared.small.SumOp.{SumOp}
+use Rattle.osl_job.specs.declared.small.SumOp.TheVariants.{Add, Sub}
+use Rattle.osl_job.specs.declared.small.Expr.{Expr}
+use Rattle.osl_job.specs.declared.small.Expr.TheVariants.{Const, Var, Apply}
+use Rattle.osl_job.specs.declared.small.Param.{Param}
+use Rattle.osl_job.specs.declared.small.Assignment.{Assignment}
+use Rattle.osl_job.specs.declared.small.SmallShader.{SmallShader}
+use Rattle.osl_job.specs.SmallNames.{param_named, output_named, fits}
 use Rattle.osl_job.specs.Reader.{ended}
 
 -- ---- one token
@@ -90,14 +90,14 @@ variable_or None None = None
 abbrev pub operand_of : List Param → Option Lexeme → Option Expr
 operand_of params found = variable_or (option_and_then (param_named params) (name_of found)) (float_of found)
 
-abbrev pub sign_of : Mark → Option OpName
+abbrev pub sign_of : Mark → Option SumOp
 sign_of (m.Punct p.Plus) = Some Add
 sign_of (m.Punct p.Minus) = Some Sub
 sign_of (m.Punct _) = None
 sign_of (m.Keyword _) = None
 
 -- the sum with one operand more, where a sign was taken
-abbrev pub joined : List Param → Expr → (Expr → Parser Expr) → Option OpName → Parser Expr
+abbrev pub joined : List Param → Expr → (Expr → Parser Expr) → Option SumOp → Parser Expr
 joined params sum go None = pure sum
 joined params sum go (Some op) = token (operand_of params) >>= (λ next. go (Apply op sum next))
 
@@ -131,7 +131,7 @@ more_assignments params (suc room) body = do
     more_assignments params room (body ++ next ∷ []))
 
 -- "shader" name "(" params ")" "{" { assignment } "}", at most 64 assignments
-abbrev pub shader : Parser Typed
+abbrev pub shader : Parser SmallShader
 shader = do
   expect (m.Keyword w.Shader)
   name ← named short_name
@@ -143,7 +143,7 @@ shader = do
   pure (record { name = name; params = params; body = body })
 
 -- the shader that the tokens spell
-abbrev pub small_shader : List Lexeme → Option Typed
+abbrev pub small_shader : List Lexeme → Option SmallShader
 small_shader tokens = ended (shader tokens)
 
 -- the defaults of these parameters name no variable

@@ -6,14 +6,14 @@ use Rattle.osl_tree.specs.Lexical.{Tokens}
 use Rattle.osl_tree.specs.Lexemes.{lexemes}
 use Rattle.osl_tree.specs.Files.{Spells}
 use Rattle.osl_typed.specs.declared.shader.TypedShader.{TypedShader}
-use Rattle.osl_typed.specs.declared.tree.Typed.{Typed}
+use Rattle.osl_job.specs.declared.small.SmallShader.{SmallShader}
 use Rattle.osl_typed.specs.FileTyping.{IsTypingOf}
 use Rattle.osl_job.specs.declared.source.Source.{Source}
 use Rattle.osl_job.specs.declared.source.Source.TheVariants.{NoTokens, NoTree, NoTyping, NotBuilt, Shader}
 use Rattle.osl_job.specs.Small.{small_shader}
 
 -- a source that has a typing is built where its tokens spell a shader of the small form
-abbrev pub built : Option Typed → Source
+abbrev pub built : Option SmallShader → Source
 built None = NotBuilt
 built (Some shader) = Shader shader
 
@@ -26,7 +26,7 @@ pub data IsSource (text : List ℕ) : Source → Type 0 where
       → Tokens text tokens → Spells tree text tokens → IsTypingOf tree t → source ≡ built (small_shader (lexemes text tokens)) → IsSource text source
 
 -- a fact of the shader, where it is built
-abbrev pub IfShader : Source → (Typed → Type 0) → Type 0
+abbrev pub IfShader : Source → (SmallShader → Type 0) → Type 0
 IfShader NoTokens P = Unit {0}
 IfShader NoTree P = Unit {0}
 IfShader NoTyping P = Unit {0}

@@ -1,5 +1,5 @@
 -- The numbers that the program ends with.
-use Rattle.std.specs.Prelude.{ℕ}
+use Rattle.std.specs.Prelude.{◌≡◌, ℕ}
 use Rattle.osl_job.specs.declared.report.Refusal.{Refusal}
 use Rattle.osl_job.specs.declared.report.Refusal.TheVariants.{Usage, Source, Absent, TooLarge, NotBuilt}
 use Rattle.osl_job.specs.declared.report.Status.{Status}
@@ -29,3 +29,9 @@ abbrev pub code_of : Status → ℕ
 code_of Done = done
 code_of (Refused why) = refusal_code why
 code_of ReadFault = read_fault
+
+-- the statuses that there are: that of a run that nothing cuts short, and those of one that a put, or want of memory, cuts short
+pub data IsExitStatus (status : ℕ) : Type 0 where
+  whole : (s : Status) → status ≡ code_of s → IsExitStatus status
+  put_failed : status ≡ write_fault → IsExitStatus status
+  memory_refused : status ≡ no_memory → IsExitStatus status

@@ -1,14 +1,14 @@
 -- What is said of a job over given files, and what it may print.
 use Rattle.std.specs.Prelude.{◌≡◌, ℕ, List, ◌++◌, codes}
 use Rattle.osl_decimal.specs.Canonical.{fx_text}
-use Rattle.osl_typed.specs.declared.tree.Typed.{Typed}
-use Rattle.osl_typed.specs.Source.{source_run}
+use Rattle.osl_job.specs.declared.small.SmallShader.{SmallShader}
+use Rattle.osl_job.specs.SmallRun.{small_run}
 use Rattle.osl_job.specs.declared.report.Refusal.{Refusal}
 use Rattle.osl_job.specs.Status.{done, refusal_code}
 
 -- a `shade` job that is done: its shader, the layer's name, and the asked parameter with its number
 pub record AcceptedJob : Type 0 where
-  pub shader : Typed
+  pub shader : SmallShader
   pub layer : List ℕ
   pub param : List ℕ
   pub output : ℕ
@@ -28,7 +28,7 @@ line text = text ++ codes "\n"
 
 -- the line of an asked output
 abbrev pub out_line : AcceptedJob → List ℕ
-out_line job = codes " out " ++ job.layer ++ codes "." ++ job.param ++ codes " " ++ fx_text (source_run job.shader job.output)
+out_line job = codes " out " ++ job.layer ++ codes "." ++ job.param ++ codes " " ++ fx_text (small_run job.shader job.output)
 
 -- What is printed of an accepted job: the freeze before any edit, the one point with its output, and the end.
 abbrev pub out_text : AcceptedJob → List ℕ

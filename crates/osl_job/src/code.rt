@@ -1,10 +1,10 @@
 ghost use Rattle.std.specs.Prelude.{◌≡◌, ◌≤◌, ◌<◌, true, length, reverse, vec_len, IfOk, OnOk};
 ghost use Rattle.std.specs.List.{list_all};
-ghost use Rattle.osl_typed.specs.Source.{source_run, zeros, apply};
-ghost use Rattle.osl_typed.specs.Tree.{is_tied};
+ghost use Rattle.osl_job.specs.SmallRun.{small_run, zeros, apply};
+ghost use Rattle.osl_job.specs.SmallNames.{is_tied};
 ghost use Rattle.osl_job.specs.Code as spec;
 
-use osl_typed::{Assignment, Expr, OpName, Param, Typed};
+use crate::small::{Assignment, Expr, Param, SmallShader, SumOp};
 use osl_value::{Fx, Memory};
 use std::alloc::Global;
 
@@ -14,30 +14,30 @@ pub enum Op {
     Push(Fx),
     Load(u32),
     /// The second operand is on top.
-    Apply(OpName),
+    Apply(SumOp),
     Store(u32),
 }
 
 /// The value of a shader's parameter after a run of the shader.
-pub fn value_of(alloc: Global, typed: &Typed, param: u32) -> Result<Fx, Memory>
-    requires tied { is_tied typed.now ≡ true }
-    requires within { param < length typed.now.params }
-    requires few { length typed.now.params ≤ 16 }
-    ensures { IfOk result (λ value. value ≡ source_run typed.now param) }
+pub fn value_of(alloc: Global, shader: &SmallShader, param: u32) -> Result<Fx, Memory>
+    requires tied { is_tied shader.now ≡ true }
+    requires within { param < length shader.now.params }
+    requires few { length shader.now.params ≤ 16 }
+    ensures { IfOk result (λ value. value ≡ small_run shader.now param) }
 {
-    let ops = compile(alloc, typed)?;
-    let values = run(alloc, ops.as_slice(), typed.params.len())?;
+    let ops = compile(alloc, shader)?;
+    let values = run(alloc, ops.as_slice(), shader.params.len())?;
     Ok(values[param as usize])
 }
 
 /// The ops of a shader: each parameter gets its default, and then come the assignments.
-fn compile(alloc: Global, typed: &Typed) -> Result<Vec<Op>, Memory>
-    requires { length typed.now.params ≤ 16 }
-    ensures { IfOk result (λ ops. spec.StandsFor typed.now ops.items) }
+fn compile(alloc: Global, shader: &SmallShader) -> Result<Vec<Op>, Memory>
+    requires { length shader.now.params ≤ 16 }
+    ensures { IfOk result (λ ops. spec.StandsFor shader.now ops.items) }
 {
     let mut ops = Vec::new(alloc);
-    append_defaults(&mut ops, typed.params.as_slice())?;
-    append_body(&mut ops, typed.body.as_slice())?;
+    append_defaults(&mut ops, shader.params.as_slice())?;
+    append_body(&mut ops, shader.body.as_slice())?;
     Ok(ops)
 }
 
@@ -139,7 +139,7 @@ fn act(state: &mut State, op: Op) -> Result<(), Memory>
 }
 
 /// Puts the value of an operation in place of its two operands.
-fn apply_top(stack: &mut Vec<Fx>, op: OpName) -> Result<(), Memory>
+fn apply_top(stack: &mut Vec<Fx>, op: SumOp) -> Result<(), Memory>
     ensures { OnOk result (reverse stack.new.items ≡ spec.applied op (reverse stack.old.items)) }
 {
     let Some(right) = stack.pop() else {
@@ -153,11 +153,11 @@ fn apply_top(stack: &mut Vec<Fx>, op: OpName) -> Result<(), Memory>
     Ok(())
 }
 
-fn apply(op: OpName, left: Fx, right: Fx) -> Fx
+fn apply(op: SumOp, left: Fx, right: Fx) -> Fx
     ensures { result ≡ apply op left right }
 {
     match op {
-        OpName::Add => left.add(right),
-        OpName::Sub => left.sub(right),
+        SumOp::Add => left.add(right),
+        SumOp::Sub => left.sub(right),
     }
 }

@@ -2,18 +2,19 @@
 //!
 //! Definitions in `specs/`: `Words` gives the job that words spell; `Plan` the files that a job reads, in order,
 //! and the verdict over given files; `Source` what a source's text is; `Verdict` what may be printed of an accepted
-//! job; `Run` the words of the contract. `Small` is the small form of shaders that is built today, `Text`, `Reader`
-//! and `GroupText` those of groups and points, and `Code` what the ops do that a shader becomes. Readers and ops are
-//! private.
+//! job; `Run` the words of the contract. `Small` is the small form of shaders that is built today, `SmallNames` and
+//! `SmallRun` what such a shader means, `Text`, `Reader` and `GroupText` the forms of groups and points, and `Code` what
+//! the ops do that a shader becomes. Readers and ops are private.
 #![tactic(auto)]
 
-ghost use Rattle.std.specs.Prelude.{◌≡◌, ◌⊎◌, List, ℕ, map, string_bytes, None};
+ghost use Rattle.std.specs.Prelude.{◌≡◌, ◌⊎◌, List, ℕ, map, string_bytes, None, Some};
 ghost use Rattle.osl_store.specs.Counts.{Rose};
 ghost use Rattle.osl_store.specs.Files.{SameFiles};
 ghost use Rattle.osl_job.specs.declared.report.Refusal.{Refusal};
-ghost use Rattle.osl_job.specs.Status.{done, read_fault, write_fault, no_memory, refusal_code};
+ghost use Rattle.osl_job.specs.declared.words.Job.TheVariants as jobs;
+ghost use Rattle.osl_job.specs.Status.{done, read_fault, write_fault, no_memory, refusal_code, IsExitStatus};
 ghost use Rattle.osl_job.specs.Words.{job_of};
-ghost use Rattle.osl_job.specs.Plan.{plan_of};
+ghost use Rattle.osl_job.specs.Plan.{plan_for};
 ghost use Rattle.osl_job.specs.Run.{OverTold, Writes, WritesFront, IsDone, IsRefusal, IsReadFault, IsText, IsStatus, HasCause, NoFaultRose, StaysClean};
 
 use osl_store::{PutError, Sink, Store};
@@ -25,6 +26,7 @@ pub mod laws;
 mod names;
 mod report;
 mod shader;
+mod small;
 mod source;
 mod steps;
 mod text;
@@ -54,31 +56,35 @@ pub fn run_plain<S: Store, K: Sink>(
 ) -> u8
     // Over told files, at status 0 the job is accepted, and what was written is a text that it may print.
     ensures done { result ≡ done → OverTold (S.file store.old) (λ files.
-        Writes (K.written out.old) (K.written out.new) (IsDone (plan_of (job_of (map string_bytes words.now))) files)) }
+        Writes (K.written out.old) (K.written out.new) (IsDone (plan_for (map string_bytes words.now)) files)) }
 
     // A refusal is the verdict's, and exactly its line was written.
     ensures refused { (why : Refusal) → result ≡ refusal_code why → OverTold (S.file store.old) (λ files.
-        Writes (K.written out.old) (K.written out.new) (IsRefusal why (plan_of (job_of (map string_bytes words.now))) files)) }
+        Writes (K.written out.old) (K.written out.new) (IsRefusal why (plan_for (map string_bytes words.now)) files)) }
 
     // A read fault: exactly the line of a file that the job comes to read was written.
     ensures read_fault { result ≡ read_fault → OverTold (S.file store.old) (λ files.
-        Writes (K.written out.old) (K.written out.new) (IsReadFault (plan_of (job_of (map string_bytes words.now))) files)) }
+        Writes (K.written out.old) (K.written out.new) (IsReadFault (plan_for (map string_bytes words.now)) files)) }
 
     // Cut short by a put that failed, or by want of memory: a front of a text of the job was written.
     ensures write_fault { result ≡ write_fault → Rose (K.faults out.old) (K.faults out.new) }
     ensures cut_short { (result ≡ write_fault) ⊎ (result ≡ no_memory) → OverTold (S.file store.old) (λ files.
-        WritesFront (K.written out.old) (K.written out.new) (IsText (plan_of (job_of (map string_bytes words.now))) files)) }
+        WritesFront (K.written out.old) (K.written out.new)
+        (IsText (plan_for (map string_bytes words.now)) files (S.counts store.old) (S.counts store.new))) }
 
-    // Over every store: which count rose, and that usage is a matter of the words alone.
+    // Over every store: which statuses there are, which count rose, and that two refusals are a matter of the words alone.
+    ensures known { IsExitStatus result }
     ensures cause { HasCause result (S.counts store.old) (S.counts store.new) }
     ensures usage { result ≡ refusal_code Refusal.Usage → job_of (map string_bytes words.now) ≡ None }
     ensures usage_only { job_of (map string_bytes words.now) ≡ None →
         (result ≡ refusal_code Refusal.Usage) ⊎ (result ≡ write_fault) ⊎ (result ≡ no_memory) }
+    ensures unbuilt_words { job_of (map string_bytes words.now) ≡ Some jobs.NotBuilt →
+        (result ≡ refusal_code Refusal.NotBuilt) ⊎ (result ≡ write_fault) ⊎ (result ≡ no_memory) }
 
     // Where no count of faults rose, the status is that of the verdict, unless memory was refused.
     ensures complete { NoFaultRose (S.counts store.old) (S.counts store.new) (K.faults out.old) (K.faults out.new) →
         OverTold (S.file store.old) (λ files.
-        (result ≡ no_memory) ⊎ IsStatus (plan_of (job_of (map string_bytes words.now))) files result) }
+        (result ≡ no_memory) ⊎ IsStatus (plan_for (map string_bytes words.now)) files result) }
 
     // No count of faults rises over a store and a sink of which no call fails.
     ensures clean { StaysClean (S.faultless store.old) (S.faultless store.new) (K.faultless out.old) (K.faultless out.new)

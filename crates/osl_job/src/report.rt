@@ -16,7 +16,7 @@ use std::alloc::Global;
 pub enum Refusal {
     /// The words spell no job.
     Usage,
-    /// A source has no tokens, or no tree.
+    /// A source has no tokens, no tree, or no typing.
     Source,
     /// A file is absent.
     Absent,

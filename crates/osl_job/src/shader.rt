@@ -4,17 +4,17 @@ ghost use Rattle.std.specs.Prelude.{◌≡◌, ◌+◌, ◌<◌, ◌≤◌, true
 ghost use Rattle.std.specs.List.{list_all};
 ghost use Rattle.osl_tree.specs.Lexemes.{lexemes};
 ghost use Rattle.osl_tree.specs.Parser.{first, take_as};
-ghost use Rattle.osl_typed.specs.Tree.{fits, assignment_fits, output_named, is_tied};
+ghost use Rattle.osl_job.specs.SmallNames.{fits, assignment_fits, output_named, is_tied};
 ghost use Rattle.osl_parse.specs.Within.{LieWithin};
 ghost use Rattle.osl_job.specs.Reader.{Reads, ReadsWhole, OnlyMemory};
 ghost use Rattle.osl_job.specs.Small as spec;
 ghost use Rattle.osl_job.specs.Small.{AreTied};
 
+use crate::small::{Assignment, Expr, Param, SmallShader, SumOp, find_output, find_param};
 use crate::text::Stop;
 use crate::tokens::Tokens;
 use osl_tree::mark::{Keyword, Mark};
 use osl_tree::token::{Punct, Token};
-use osl_typed::{Assignment, Expr, OpName, Param, Typed, find_output, find_param};
 use osl_value::Fx;
 use sqlite_items::{Boxed, Items};
 use std::alloc::Global;
@@ -32,22 +32,22 @@ const MORE_OPERANDS: u32 = 15;
 const ASSIGNMENTS: u32 = 64;
 
 /// The shader that these tokens of the source spell.
-pub fn read_shader(alloc: Global, source: &[u8], tokens: &[Token]) -> Result<Typed, Stop>
+pub fn read_shader(alloc: Global, source: &[u8], tokens: &[Token]) -> Result<SmallShader, Stop>
     requires { LieWithin source.now tokens.now }
     ensures read { ReadsWhole (spec.small_shader (lexemes source.now tokens.now)) result }
     ensures tied { IfOk result (λ t. is_tied t ≡ true) }
     ensures few { IfOk result (λ t. length t.params ≤ 16) }
 {
     let mut tokens = Tokens::new(source, tokens);
-    let typed = shader(alloc, &mut tokens)?;
+    let shader = shader(alloc, &mut tokens)?;
     if tokens.is_end() {
-        Ok(typed)
+        Ok(shader)
     } else {
         Err(Stop::NotBuilt)
     }
 }
 
-fn shader(alloc: Global, tokens: &mut Tokens<'_>) -> Result<Typed, Stop>
+fn shader(alloc: Global, tokens: &mut Tokens<'_>) -> Result<SmallShader, Stop>
     ensures read { Reads (spec.shader tokens.old) result tokens.new }
     ensures tied { IfOk result (λ t. is_tied t ≡ true) }
     ensures few { IfOk result (λ t. length t.params ≤ 16) }
@@ -59,7 +59,7 @@ fn shader(alloc: Global, tokens: &mut Tokens<'_>) -> Result<Typed, Stop>
     tokens.expect(Mark::Punct(Punct::CloseParen))?;
     tokens.expect(Mark::Punct(Punct::OpenBrace))?;
     let body = assignments(alloc, tokens, params.as_slice(), ASSIGNMENTS)?;
-    Ok(Typed { name, params, body })
+    Ok(SmallShader { name, params, body })
 }
 
 /// One parameter, or several behind one another with commas.
@@ -232,7 +232,7 @@ fn more_operands(
     Ok(sum)
 }
 
-fn joined(alloc: Global, op: OpName, left: Expr, right: Expr) -> Result<Expr, Stop>
+fn joined(alloc: Global, op: SumOp, left: Expr, right: Expr) -> Result<Expr, Stop>
     ensures { OnlyMemory (Expr.Apply op left right) result }
 {
     let left = Boxed::new(alloc, left)?;
@@ -241,7 +241,7 @@ fn joined(alloc: Global, op: OpName, left: Expr, right: Expr) -> Result<Expr, St
 }
 
 /// Takes a sign, if one comes next.
-fn eat_sign(tokens: &mut Tokens<'_>) -> Option<OpName>
+fn eat_sign(tokens: &mut Tokens<'_>) -> Option<SumOp>
     ensures { take_as spec.sign_of tokens.old ≡ Some (result, tokens.new) }
 {
     let op = sign_of(tokens.mark()?)?;
@@ -249,12 +249,12 @@ fn eat_sign(tokens: &mut Tokens<'_>) -> Option<OpName>
     Some(op)
 }
 
-fn sign_of(mark: Mark) -> Option<OpName>
+fn sign_of(mark: Mark) -> Option<SumOp>
     ensures { result ≡ spec.sign_of mark }
 {
     match mark {
-        Mark::Punct(Punct::Plus) => Some(OpName::Add),
-        Mark::Punct(Punct::Minus) => Some(OpName::Sub),
+        Mark::Punct(Punct::Plus) => Some(SumOp::Add),
+        Mark::Punct(Punct::Minus) => Some(SumOp::Sub),
         _ => None,
     }
 }

@@ -2,19 +2,19 @@
 
 ghost use Rattle.std.specs.Prelude.{◌≡◌, ◌≤◌, true, length, IfOk};
 ghost use Rattle.osl_tree.specs.Lexemes.{lexemes};
-ghost use Rattle.osl_typed.specs.Tree.{is_tied};
+ghost use Rattle.osl_job.specs.SmallNames.{is_tied};
 ghost use Rattle.osl_parse.specs.Within.{LieWithin};
 ghost use Rattle.osl_job.specs.Small.{small_shader};
 ghost use Rattle.osl_job.specs.Source as spec;
 ghost use Rattle.osl_job.specs.Source.{IsSource, IfShader};
 
 use crate::shader::read_shader;
+use crate::small::SmallShader;
 use crate::text::Stop;
 use osl_check::check;
 use osl_lex::{LexError, lex};
 use osl_parse::{SyntaxError, parse};
 use osl_tree::token::Token;
-use osl_typed::Typed;
 use osl_typing::TypeError;
 use osl_value::Memory;
 use std::alloc::Global;
@@ -31,7 +31,7 @@ pub enum Source {
     /// Its form is not built yet.
     NotBuilt,
     /// This shader, of the small form.
-    Shader(Typed),
+    Shader(SmallShader),
 }
 
 /// What the text of a source is.

@@ -1,9 +1,10 @@
 ghost use Rattle.std.specs.Prelude.{◌≡◌, ◌<◌, ◌≤◌, ◌↔◌, ◌++◌, List, ℕ, codes, map, string_bytes, None, Some, IfOk, length, true};
 ghost use Rattle.osl_decimal.specs.Canonical.{fx_text};
-ghost use Rattle.osl_typed.specs.Tree.{is_tied};
+ghost use Rattle.osl_job.specs.SmallNames.{is_tied};
 ghost use Rattle.osl_job.specs.Plan.{after_group, after_source, plan_of, shade_plan, source_name};
 ghost use Rattle.osl_job.specs.Run.{Fetches, FetchesWithin, FetchHasCause, HasCause, IsRefused, IsShown, OnlyRead, OverTold, Reports, ComesTo};
 ghost use Rattle.osl_job.specs.declared.report.Refusal.{Refusal};
+ghost use Rattle.osl_job.specs.declared.words.Job.TheVariants as jobs;
 ghost use Rattle.osl_job.specs.declared.source.Source.TheVariants as sources;
 ghost use Rattle.osl_job.specs.Status.{code_of};
 ghost use Rattle.osl_job.specs.Verdict.{line};
@@ -12,12 +13,12 @@ ghost use Rattle.osl_job.specs.Words.{job_of};
 use crate::code::value_of;
 use crate::group::{Group, is_one_point, read_group};
 use crate::report::{Refusal, Report, Status};
+use crate::small::{SmallShader, find_output};
 use crate::source::{Source, read_source};
 use crate::text::Stop;
 use crate::words::{Job, Name, read_words};
 use osl_decimal::write_fx;
 use osl_store::{ReadError, Store};
-use osl_typed::{Typed, find_output};
 use osl_value::{Fx, Memory};
 use std::alloc::Global;
 
@@ -33,6 +34,7 @@ pub fn work<S: Store>(alloc: Global, words: &[String], store: &mut S) -> Result<
         ComesTo (plan_of (job_of (map string_bytes words.now))) files r)) }
     ensures cause { IfOk result (λ r. HasCause (code_of r.status) (S.counts store.old) (S.counts store.new)) }
     ensures words { IfOk result (λ r. (code_of r.status ≡ 2) ↔ (job_of (map string_bytes words.now) ≡ None)) }
+    ensures unbuilt_words { IfOk result (λ r. job_of (map string_bytes words.now) ≡ Some jobs.NotBuilt → code_of r.status ≡ 11) }
     ensures store { OnlyRead (S.file store.old) (S.file store.new) (S.counts store.old) (S.counts store.new) (S.faultless store.old) (S.faultless store.new) }
 {
     match read_words(alloc, words)? {
@@ -108,7 +110,7 @@ fn with_shader<S: Store>(
     group_file: &Name,
     point_file: &Name,
     group: &Group,
-    shader: &Typed,
+    shader: &SmallShader,
     store: &mut S,
 ) -> Result<Report, Memory>
     requires tied { is_tied shader.now ≡ true }
@@ -132,7 +134,7 @@ fn with_shader<S: Store>(
 }
 
 /// The report of a job that is done.
-fn shown(alloc: Global, group: &Group, shader: &Typed, output: u32) -> Result<Report, Memory>
+fn shown(alloc: Global, group: &Group, shader: &SmallShader, output: u32) -> Result<Report, Memory>
     requires tied { is_tied shader.now ≡ true }
     requires few { length shader.now.params ≤ 16 }
     requires within { output < length shader.now.params }

@@ -5,8 +5,8 @@ use Rattle.std.specs.Prelude.{◌==◌}
 use Rattle.osl_typed.specs.declared.shader.TypedFunction.{TypedFunction}
 use Rattle.osl_typed.specs.declared.shader.TypedStructure.{TypedStructure}
 use Rattle.osl_typed.specs.declared.sizes.Weight.{Weight}
-use Rattle.osl_typed.specs.Measured.{cut, weight_or_nothing, IsCallTable}
-use Rattle.osl_typed.specs.Sizes.{one_open, call_weight, weight_of_call, calls_below}
+use Rattle.osl_typed.specs.Measured.{cut, IsCallTable}
+use Rattle.osl_typed.specs.Sizes.{one_open, or_nothing, call_weight, weight_of_call, calls_below}
 use Rattle.osl_typed.proofs.LeafTables.{entry_at}
 
 one_more : (n : ℕ) → min 17 (1 + min 17 n) ≡ min 17 (1 + n)
@@ -35,6 +35,6 @@ unfolding calls_below
 one_function structures functions table n f e known long is new m =
     let more : length (table ++ e ∷ []) ≡ suc (length table) = length_push table e ∙ add-one (length table) in
     let here : Some f ≡ slice_get functions (length table) = sym (ap (slice_get functions) long ∙ is) in
-    entry_at weight_or_nothing table e m
-    ∙ either_way (m == length table) e (weight_or_nothing (slice_get table m)) _ _ (new ∙ ap (λ o. cut (weight_of_call structures (calls_below structures functions (length table)) o)) here) (known m)
+    entry_at or_nothing table e m
+    ∙ either_way (m == length table) e (or_nothing (slice_get table m)) _ _ (new ∙ ap (λ o. cut (weight_of_call structures (calls_below structures functions (length table)) o)) here) (known m)
     ∙ ap (λ k. cut (calls_below structures functions k m)) (sym more)

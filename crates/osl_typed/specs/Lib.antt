@@ -1,5 +1,3 @@
-pub mod Tree
-pub mod Source
 pub mod Frames
 pub mod State
 pub mod Ends

@@ -13,27 +13,30 @@ use Rattle.osl_typed.specs.declared.sizes.Leaves.{Leaves}
 use Rattle.osl_typed.specs.declared.sizes.Sizes.{Sizes}
 use Rattle.osl_typed.specs.declared.sizes.Weight.{Weight}
 use Rattle.osl_typed.specs.Frames.{leaves_below}
-use Rattle.osl_typed.specs.Sizes.{◌&◌, nothing, all_of, bare, valued, held, selections, selected_types, field_kinds, root_kind, type_slots, calls_below, size_of, slots_of, calls_of, most_size, most_calls, longest_name}
+use Rattle.osl_typed.specs.Sizes.{◌&◌, nothing, or_nothing, all_of, bare, valued, held, selections, selected_types, field_kinds, root_kind, type_slots, calls_below, size_of, slots_of, calls_of, most_size, most_slots, most_calls, longest_name}
 
 -- ---- weights
 
 abbrev pub size_top : ℕ
 size_top = most_size + 1
 
+abbrev pub slots_top : ℕ
+slots_top = most_slots + 1
+
 abbrev pub call_top : ℕ
 call_top = most_calls + 1
 
 abbrev pub cut : Weight → Weight
-cut w = record { size = min size_top w.size; slots = min size_top w.slots; calls = min call_top w.calls }
+cut w = record { size = min size_top w.size; slots = min slots_top w.slots; calls = min call_top w.calls }
 
 -- ---- tables
 
 -- the leaves of a type or of types, and their slots
 abbrev pub shortened : List Ty → Leaves
-shortened types = record { count = min size_top (length types); slots = min size_top (sum_by type_slots types) }
+shortened types = record { count = min size_top (length types); slots = min slots_top (sum_by type_slots types) }
 
 abbrev pub leaves_sum : Leaves → Leaves → Leaves
-leaves_sum a b = record { count = min size_top (a.count + b.count); slots = min size_top (a.slots + b.slots) }
+leaves_sum a b = record { count = min size_top (a.count + b.count); slots = min slots_top (a.slots + b.slots) }
 
 abbrev pub leaves_or_none : Option Leaves → Leaves
 leaves_or_none None = record { count = 0; slots = 0 }
@@ -43,13 +46,9 @@ leaves_or_none (Some leaves) = leaves
 abbrev pub IsLeafTable : List TypedStructure → List Leaves → Type 0
 IsLeafTable structures table = (m : ℕ) → leaves_or_none (slice_get table m) ≡ shortened (leaves_below structures (length table) m)
 
-abbrev pub weight_or_nothing : Option Weight → Weight
-weight_or_nothing None = nothing
-weight_or_nothing (Some w) = w
-
 -- the table has what a call adds of each function that it is as long as
 abbrev pub IsCallTable : List TypedStructure → List TypedFunction → List Weight → Type 0
-IsCallTable structures functions table = (f : ℕ) → weight_or_nothing (slice_get table f) ≡ cut (calls_below structures functions (length table) f)
+IsCallTable structures functions table = (f : ℕ) → or_nothing (slice_get table f) ≡ cut (calls_below structures functions (length table) f)
 
 -- ---- nodes
 
@@ -83,7 +82,7 @@ indices_wanted ty = if is_only Matrix ty then 2 else 1
 abbrev pub measured : TypedShader → Sizes
 measured t = record {
   size = min size_top (size_of t);
-  slots = min size_top (slots_of t);
+  slots = min slots_top (slots_of t);
   calls = min call_top (calls_of t);
   longest_text = min (longest_text + 1) t.longest_text;
   longest_word = min (longest_name + 1) t.longest_word;

@@ -1,5 +1,5 @@
 -- A layer run from its source (OSL specification, sections "Shader parameters" and "Global variables").
-use Rattle.std.specs.Prelude.{ℕ, false, ◌+◌, if◌then◌else◌, List, [], ◌∷◌, length, Option, None, Some, slice_get}
+use Rattle.std.specs.Prelude.{ℕ, false, nat_lt, ◌+◌, if◌then◌else◌, List, [], ◌∷◌, length, Option, None, Some, slice_get}
 use Rattle.osl_value.specs.declared.point.Point.{Point}
 use Rattle.osl_value.specs.AnyValue.{AnyValue, Parts, parts_of, zero_value}
 use Rattle.osl_overload.specs.declared.signature.Kind.TheVariants.{Value}
@@ -33,8 +33,12 @@ start_of t inputs point budget =
 
 -- ---- the run
 
+-- what the parameters are given; other variables are given nothing
+abbrev pub given_to : List TypedParam → Inputs → Inputs
+given_to params inputs = λ k. if nat_lt k (length params) then inputs k else Default
+
 abbrev pub shader_frame : TypedShader → Inputs → Frame
-shader_frame t inputs = record { structures = t.structures; kinds = t.frame; inputs = inputs }
+shader_frame t inputs = record { structures = t.structures; kinds = t.frame; inputs = given_to t.params inputs }
 
 abbrev pub functions_of : TypedShader → Calls
 functions_of t = below t.structures t.functions (length t.functions)

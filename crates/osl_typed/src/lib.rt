@@ -3,8 +3,7 @@
 //! The tree has each name tied to its declaration, each call to its function, and each promotion written in. A
 //! value is the list of its leaves, and a run goes from state to state. The definitions are in `specs/`: `Typing`,
 //! `BodyTyping` and `FileTyping` say which typed tree a syntax tree has, `Expressions`, `Statements` and `SourceRun`
-//! what it means, and `Sizes` how much code it may become. The small form that runs today has a tree (`tree`) and
-//! a meaning (`specs/Tree`, `specs/Source`) of its own.
+//! what it means, and `Sizes` how much code it may become.
 #![tactic(auto)]
 
 pub mod expr;
@@ -15,16 +14,15 @@ pub mod shader;
 pub mod sizes;
 pub mod stmt;
 mod tables;
-pub mod tree;
+pub mod typed;
 pub mod types;
-pub mod whole;
 
 pub use expr::{Argument, Part, Root, Step, TypedExpr};
 pub use found::{Binding, Callee, Form, Found};
 pub use shader::{TypedDatum, TypedFunction, TypedParam, TypedShader, TypedStructure};
 pub use sizes::Sizes;
 pub use stmt::{Declared, TypedForStart, TypedInit, TypedStmt};
-pub use tree::{Assignment, Expr, OpName, Param, Typed, find_output, find_param};
+pub use typed::Typed;
 
 #[cfg(test)]
 mod tests;

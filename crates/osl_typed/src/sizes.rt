@@ -41,8 +41,11 @@ pub struct Leaves {
     pub slots: u32,
 }
 
-/// One above the most size, and the most slots, of a shader.
+/// One above the most size of a shader.
 pub(crate) const SIZE_TOP: u32 = 65_537;
+
+/// One above the most slots of a shader.
+pub(crate) const SLOTS_TOP: u32 = 65_537;
 
 /// One above the most functions that are open at once.
 pub(crate) const CALL_TOP: u32 = 17;
@@ -68,7 +71,7 @@ impl Weight {
     {
         Weight {
             size: stopped(self.size as u64 + other.size as u64, SIZE_TOP),
-            slots: stopped(self.slots as u64 + other.slots as u64, SIZE_TOP),
+            slots: stopped(self.slots as u64 + other.slots as u64, SLOTS_TOP),
             calls: if self.calls < other.calls {
                 stopped(other.calls as u64, CALL_TOP)
             } else {
@@ -83,7 +86,7 @@ impl Weight {
     {
         Weight {
             size: stopped(self.size as u64, SIZE_TOP),
-            slots: stopped(self.slots as u64, SIZE_TOP),
+            slots: stopped(self.slots as u64, SLOTS_TOP),
             calls: stopped(1 + self.calls as u64, CALL_TOP),
         }
     }
@@ -96,7 +99,7 @@ impl Leaves {
     {
         Leaves {
             count: stopped(self.count as u64 + other.count as u64, SIZE_TOP),
-            slots: stopped(self.slots as u64 + other.slots as u64, SIZE_TOP),
+            slots: stopped(self.slots as u64 + other.slots as u64, SLOTS_TOP),
         }
     }
 }

@@ -1,13 +1,12 @@
 use Rattle.std.proofs.Common.{ℕ, ◌∙◌, sym, subst, map, string_bytes, inl, inr}
 use Rattle.osl_job.specs.Status.{code_of}
-use Rattle.osl_job.specs.Words.{job_of}
-use Rattle.osl_job.specs.Plan.{plan_of}
+use Rattle.osl_job.specs.Plan.{plan_for}
 use Rattle.osl_job.specs.Run.{text_of, IsStatus}
 use Rattle.osl_job.proofs.Reports.{nothing_written, complete_from_report, done_from_report, refusal_from_report, fault_from_report}
 use Rattle.osl_job.proofs.run_plain.Goals as goal
 
 pub returns-in_default-clause-cut_short : goal.returns-in_default-clause-cut_short
-returns-in_default-clause-cut_short g c cut files tells = nothing_written (plan_of (job_of (map string_bytes c.args.words.now))) files (g.K.Sink.written c.args.out.now)
+returns-in_default-clause-cut_short g c cut files tells = nothing_written (plan_for (map string_bytes c.args.words.now)) files _ _ (g.K.Sink.written c.args.out.now)
 
 pub returns-in-Ok-print-clause-done : goal.returns-in-Ok-print-clause-done
 returns-in-Ok-print-clause-done g c e files tells = (
@@ -35,13 +34,13 @@ returns-in-Ok-print-clause-usage_only g c none = inl (c.code.ensures ∙ c.in-Ok
 
 pub returns-in-Ok-print-clause-complete : goal.returns-in-Ok-print-clause-complete
 returns-in-Ok-print-clause-complete g c clean files tells =
-    inr (subst (λ (s : ℕ). IsStatus (plan_of (job_of (map string_bytes c.args.words.now))) files s) (sym c.code.ensures)
+    inr (subst (λ (s : ℕ). IsStatus (plan_for (map string_bytes c.args.words.now)) files s) (sym c.code.ensures)
     (complete_from_report _ files _ _ (c.in-Ok.ensures.report files tells) (λ seven. clean.reads (c.in-Ok.ensures.cause.read_fault seven))))
 
 pub returns-in-Err-Fault-clause-cut_short : goal.returns-in-Err-Fault-clause-cut_short
 returns-in-Err-Fault-clause-cut_short g c cut files tells =
-    (text_of c.in-Ok.report.lines.items, (code_of c.in-Ok.report.status, c.in-Ok.ensures.report files tells), rw (← c.as_slice.ensures.value) c.in-Err-Fault.ensures.front)
+    (text_of c.in-Ok.report.lines.items, record { status = code_of c.in-Ok.report.status; report = c.in-Ok.ensures.report files tells; read_fault = c.in-Ok.ensures.cause.read_fault }, rw (← c.as_slice.ensures.value) c.in-Err-Fault.ensures.front)
 
 pub returns-clause-cut_short : goal.returns-clause-cut_short
 returns-clause-cut_short g c cut files tells =
-    (text_of c.in-Ok.report.lines.items, (code_of c.in-Ok.report.status, c.in-Ok.ensures.report files tells), rw (← c.as_slice.ensures.value) c.in-Err-Memory.ensures.front)
+    (text_of c.in-Ok.report.lines.items, record { status = code_of c.in-Ok.report.status; report = c.in-Ok.ensures.report files tells; read_fault = c.in-Ok.ensures.cause.read_fault }, rw (← c.as_slice.ensures.value) c.in-Err-Memory.ensures.front)

@@ -8,7 +8,7 @@ ghost use Rattle.osl_typed.specs.Sizes as spec;
 
 use crate::measure::stmts::body;
 use crate::shader::{TypedFunction, TypedStructure};
-use crate::sizes::{Leaves, SIZE_TOP, Weight, stopped};
+use crate::sizes::{Leaves, SIZE_TOP, SLOTS_TOP, Weight, stopped};
 use crate::tables::Tables;
 use crate::tables::nodes::leaves_in;
 use osl_overload::{Formal, Kind};
@@ -50,7 +50,7 @@ fn formal(tables: &Tables, formal: &Formal) -> Weight
     let leaves = tables.leaves_of(formal.kind);
     Weight {
         size: stopped(8 * leaves.count as u64, SIZE_TOP),
-        slots: stopped(2 * leaves.slots as u64, SIZE_TOP),
+        slots: stopped(2 * leaves.slots as u64, SLOTS_TOP),
         calls: 0,
     }
 }

@@ -6,7 +6,7 @@ ghost use Rattle.osl_typed.specs.Measured.{cut, size_top, shortened, IsLeafTable
 ghost use Rattle.osl_typed.specs.Sizes as spec;
 
 use crate::shader::TypedStructure;
-use crate::sizes::{Leaves, SIZE_TOP, Weight, stopped};
+use crate::sizes::{Leaves, SIZE_TOP, SLOTS_TOP, Weight, stopped};
 use crate::tables::Tables;
 use osl_overload::Kind;
 use osl_value::{Base, Ty};
@@ -34,7 +34,7 @@ pub(crate) fn leaves_in(structures: &[TypedStructure], table: &[Leaves], kind: K
     match kind {
         Kind::Value(ty) => Leaves {
             count: 1,
-            slots: stopped(type_slots(ty), SIZE_TOP),
+            slots: stopped(type_slots(ty), SLOTS_TOP),
         },
         Kind::Structure(m) => match table.get(m as usize) {
             Some(leaves) => *leaves,
@@ -79,7 +79,7 @@ impl Tables<'_> {
         let slots = self.leaves_of(kind).slots as u64;
         Weight {
             size: self.node_size(kind),
-            slots: stopped(1 + 2 * slots, SIZE_TOP),
+            slots: stopped(1 + 2 * slots, SLOTS_TOP),
             calls: 0,
         }
     }

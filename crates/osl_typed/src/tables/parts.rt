@@ -8,7 +8,7 @@ ghost use Rattle.osl_typed.specs.Selections.{types_on_the_way, selected_type, de
 ghost use Rattle.osl_typed.specs.Sizes as spec;
 
 use crate::expr::{Part, Root, TypedExpr};
-use crate::sizes::{SIZE_TOP, Weight, stopped};
+use crate::sizes::{SLOTS_TOP, Weight, stopped};
 use crate::tables::Tables;
 use crate::types;
 use osl_overload::Kind;
@@ -155,7 +155,7 @@ impl Tables<'_> {
         let slots = 2 * self.leaves_of(kind).slots as u64;
         let whole = Weight {
             size: 0,
-            slots: stopped(slots, SIZE_TOP),
+            slots: stopped(slots, SLOTS_TOP),
             calls: 0,
         };
         match kind {

@@ -1,4 +1,4 @@
-use Rattle.osl_typed.specs.Source.{zeros}
+use Rattle.osl_job.specs.SmallRun.{zeros}
 use Rattle.osl_job.specs.Code.{Holds}
 use Rattle.osl_job.proofs.code.zeros.Given as goal
 

@@ -1,6 +1,6 @@
 use Rattle.std.proofs.Common.{◌≡◌, ◌-◌, [], length, true}
 use Rattle.std.specs.List.{list_all}
-use Rattle.osl_typed.specs.Tree.{assignment_fits}
+use Rattle.osl_job.specs.SmallNames.{assignment_fits}
 use Rattle.osl_job.specs.Small.{more_assignments}
 use Rattle.osl_job.proofs.shader.assignments.Given as goal
 

@@ -1,5 +1,5 @@
 use Rattle.std.proofs.Common.{◌≡◌, ◌-◌, length, true}
-use Rattle.osl_typed.specs.Tree.{fits}
+use Rattle.osl_job.specs.SmallNames.{fits}
 use Rattle.osl_job.specs.Small.{more_operands}
 use Rattle.osl_job.proofs.shader.more_operands.Given as goal
 

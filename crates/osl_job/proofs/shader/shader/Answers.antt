@@ -1,7 +1,7 @@
 use Rattle.std.proofs.Common.{length, subst, List, ◌≡◌, true}
 use Rattle.std.specs.List.{list_all}
-use Rattle.osl_typed.specs.declared.tree.Param.{Param}
-use Rattle.osl_typed.specs.Tree.{assignment_fits}
+use Rattle.osl_job.specs.declared.small.Param.{Param}
+use Rattle.osl_job.specs.SmallNames.{assignment_fits}
 use Rattle.osl_job.proofs.Ops.{both_true}
 use Rattle.osl_job.proofs.shader.shader.Goals as goal
 

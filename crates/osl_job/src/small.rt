@@ -1,12 +1,14 @@
+//! A shader of the small form that runs today: float parameters, and assignments of sums of floats.
+
 ghost use Rattle.std.specs.Prelude.{◌≡◌, ◌<◌, ◌^◌, length, IfSome};
-ghost use Rattle.osl_typed.specs.Tree.{param_named, output_named};
+ghost use Rattle.osl_job.specs.SmallNames.{param_named, output_named};
 
 use osl_value::Fx;
 use sqlite_items::{Boxed, Items};
 
 /// An operation of two floats.
 #[derive(Clone, Copy, Debug, PartialEq, Eq)]
-pub enum OpName {
+pub enum SumOp {
     Add,
     Sub,
 }
@@ -16,7 +18,7 @@ pub enum OpName {
 pub enum Expr {
     Const(Fx),
     Var(u32),
-    Apply(OpName, Boxed<Expr>, Boxed<Expr>),
+    Apply(SumOp, Boxed<Expr>, Boxed<Expr>),
 }
 
 /// A parameter, with its default.
@@ -34,9 +36,9 @@ pub struct Assignment {
     pub value: Expr,
 }
 
-/// A shader, its names tied to their declarations.
+/// A shader of the small form, its names tied to their declarations.
 #[derive(Drop)]
-pub struct Typed {
+pub struct SmallShader {
     pub name: Items<u8>,
     pub params: Items<Param>,
     pub body: Items<Assignment>,

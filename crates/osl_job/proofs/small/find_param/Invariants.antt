@@ -1,8 +1,8 @@
 use Rattle.std.specs.Prelude.{◌≡◌, drop, bytes_eq}
 use Rattle.std.specs.List.{position_from}
-use Rattle.osl_typed.specs.Tree.{param_named}
-use Rattle.osl_typed.specs.declared.tree.Param.{Param}
-use Rattle.osl_typed.proofs.tree.find_param.Given as goal
+use Rattle.osl_job.specs.SmallNames.{param_named}
+use Rattle.osl_job.specs.declared.small.Param.{Param}
+use Rattle.osl_job.proofs.small.find_param.Given as goal
 
 abbrev pub invariant-loop-at : goal.invariant-loop-at
 invariant-loop-at l =

@@ -1,11 +1,11 @@
--- Which names a typed tree has, and when each variable in it is declared: OSL specification, sections "Shader parameters" and "Variable declarations".
+-- Which names a shader of the small form has, and whether its variables are its parameters: OSL specification, sections "Shader parameters" and "Variable declarations".
 use Rattle.std.specs.Prelude.{ℕ, List, length, Bool, true, ◌&&◌, Option, nat_lt, bytes_eq}
 use Rattle.std.specs.List.{list_all, position_from}
-use Rattle.osl_typed.specs.declared.tree.Expr.{Expr, Expr-F, fold-Expr}
-use Rattle.osl_typed.specs.declared.tree.Expr.TheOpen.{Const, Var, Apply}
-use Rattle.osl_typed.specs.declared.tree.Param.{Param}
-use Rattle.osl_typed.specs.declared.tree.Assignment.{Assignment}
-use Rattle.osl_typed.specs.declared.tree.Typed.{Typed}
+use Rattle.osl_job.specs.declared.small.Expr.{Expr, Expr-F, fold-Expr}
+use Rattle.osl_job.specs.declared.small.Expr.TheOpen.{Const, Var, Apply}
+use Rattle.osl_job.specs.declared.small.Param.{Param}
+use Rattle.osl_job.specs.declared.small.Assignment.{Assignment}
+use Rattle.osl_job.specs.declared.small.SmallShader.{SmallShader}
 
 -- the number of the first parameter of this name
 abbrev pub param_named : List Param → List ℕ → Option ℕ
@@ -30,5 +30,5 @@ abbrev pub assignment_fits : ℕ → Assignment → Bool
 assignment_fits n s = nat_lt s.target n && fits n s.value
 
 -- each variable in the shader is one of its parameters
-abbrev pub is_tied : Typed → Bool
+abbrev pub is_tied : SmallShader → Bool
 is_tied t = list_all (λ p. fits (length t.params) p.default) t.params && list_all (assignment_fits (length t.params)) t.body

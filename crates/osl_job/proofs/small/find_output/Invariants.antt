@@ -1,8 +1,8 @@
 use Rattle.std.specs.Prelude.{◌≡◌, ◌&&◌, drop, bytes_eq}
 use Rattle.std.specs.List.{position_from}
-use Rattle.osl_typed.specs.Tree.{output_named}
-use Rattle.osl_typed.specs.declared.tree.Param.{Param}
-use Rattle.osl_typed.proofs.tree.find_output.Given as goal
+use Rattle.osl_job.specs.SmallNames.{output_named}
+use Rattle.osl_job.specs.declared.small.Param.{Param}
+use Rattle.osl_job.proofs.small.find_output.Given as goal
 
 abbrev pub invariant-loop-at : goal.invariant-loop-at
 invariant-loop-at l =

@@ -1,13 +1,13 @@
--- The meaning of the typed tree: OSL specification, sections "Shader parameters", "Expressions" and "Statements". A float stands as its units.
+-- The meaning of a shader of the small form: OSL specification, sections "Shader parameters", "Expressions" and "Statements". A float stands as its units.
 use Rattle.std.specs.Prelude.{ℕ, ◌+◌, ◌==◌, List, [], ◌∷◌, ℤ, pos, if◌then◌else◌}
 use Rattle.osl_value.specs.Numbers.{fx_add, fx_sub}
-use Rattle.osl_typed.specs.declared.tree.OpName.{OpName}
-use Rattle.osl_typed.specs.declared.tree.OpName.TheVariants.{Add, Sub}
-use Rattle.osl_typed.specs.declared.tree.Expr.{Expr, Expr-F, fold-Expr}
-use Rattle.osl_typed.specs.declared.tree.Expr.TheOpen.{Const, Var, Apply}
-use Rattle.osl_typed.specs.declared.tree.Param.{Param}
-use Rattle.osl_typed.specs.declared.tree.Assignment.{Assignment}
-use Rattle.osl_typed.specs.declared.tree.Typed.{Typed}
+use Rattle.osl_job.specs.declared.small.SumOp.{SumOp}
+use Rattle.osl_job.specs.declared.small.SumOp.TheVariants.{Add, Sub}
+use Rattle.osl_job.specs.declared.small.Expr.{Expr, Expr-F, fold-Expr}
+use Rattle.osl_job.specs.declared.small.Expr.TheOpen.{Const, Var, Apply}
+use Rattle.osl_job.specs.declared.small.Param.{Param}
+use Rattle.osl_job.specs.declared.small.Assignment.{Assignment}
+use Rattle.osl_job.specs.declared.small.SmallShader.{SmallShader}
 
 -- the values of the variables, by their numbers
 abbrev pub Environment : Type 0
@@ -22,7 +22,7 @@ unfoldable pub write : ℕ → ℤ → Environment → Environment
 write k value env = λ j. if j == k then value else env j
 
 -- the value of an operation
-abbrev pub apply : OpName → ℤ → ℤ → ℤ
+abbrev pub apply : SumOp → ℤ → ℤ → ℤ
 apply Add a b = fx_add a b
 apply Sub a b = fx_sub a b
 
@@ -47,5 +47,5 @@ hold_defaults k [] env = env
 hold_defaults k (p ∷ rest) env = hold_defaults (k + 1) rest (write k (eval env p.default) env)
 
 -- A layer run from its source: its parameters hold their defaults, and then its body is run. The answer is the environment at its end.
-abbrev pub source_run : Typed → Environment
-source_run t = exec t.body (hold_defaults 0 t.params zeros)
+abbrev pub small_run : SmallShader → Environment
+small_run t = exec t.body (hold_defaults 0 t.params zeros)
