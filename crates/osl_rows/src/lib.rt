@@ -1,9 +1,12 @@
-//! Tests that cross crates: rows of sources, with their tokens, the shapes of their trees, and whether they have a typing.
+//! Tests that cross crates: rows of sources, with their tokens, the shapes of their trees, whether they have a typing,
+//! and their sizes.
 //! What is expected was written by hand, from the language's rules.
 #![tactic(auto)]
 
 #[cfg(test)]
 mod shape;
+#[cfg(test)]
+mod sizes;
 #[cfg(test)]
 mod tests;
 #[cfg(test)]

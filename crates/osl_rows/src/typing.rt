@@ -16,6 +16,7 @@ use crate::LIMIT;
 use osl_check::check;
 use osl_lex::{LexError, lex};
 use osl_parse::{SyntaxError, parse};
+use osl_typed::Typed;
 use osl_typing::TypeError;
 use osl_value::Memory;
 use std::alloc::Global;
@@ -31,24 +32,34 @@ pub enum Verdict {
     NoTree,
 }
 
-/// What becomes of a source.
-fn verdict_of(alloc: Global, source: &str) -> Result<Verdict, Memory>
+/// The typed tree of a source, or the verdict that it has none.
+pub(crate) fn typed_of(alloc: Global, source: &str) -> Result<Result<Typed, Verdict>, Memory>
     requires { length source.now ≤ LIMIT }
 {
     let tokens = match lex(alloc, source.as_bytes()) {
         Ok(tokens) => tokens,
-        Err(LexError::Bad { .. }) => return Ok(Verdict::NoTokens),
+        Err(LexError::Bad { .. }) => return Ok(Err(Verdict::NoTokens)),
         Err(LexError::Memory) => return Err(Memory),
     };
     let tree = match parse(alloc, source.as_bytes(), tokens.as_slice()) {
         Ok(tree) => tree,
-        Err(SyntaxError::NoTree) => return Ok(Verdict::NoTree),
+        Err(SyntaxError::NoTree) => return Ok(Err(Verdict::NoTree)),
         Err(SyntaxError::Memory) => return Err(Memory),
     };
     match check(alloc, &tree) {
-        Ok(_) => Ok(Verdict::Typed),
-        Err(TypeError::NoTyping) => Ok(Verdict::Untyped),
+        Ok(typed) => Ok(Ok(typed)),
+        Err(TypeError::NoTyping) => Ok(Err(Verdict::Untyped)),
         Err(TypeError::Memory) => Err(Memory),
+    }
+}
+
+/// What becomes of a source.
+fn verdict_of(alloc: Global, source: &str) -> Result<Verdict, Memory>
+    requires { length source.now ≤ LIMIT }
+{
+    match typed_of(alloc, source)? {
+        Ok(_) => Ok(Verdict::Typed),
+        Err(verdict) => Ok(verdict),
     }
 }
 
