@@ -71,7 +71,7 @@ fn selected(
     }
 }
 
-/// The typed form of what may be a row of a matrix.
+/// The typed form of an expression, or of a row of a matrix, which is none by itself.
 #[tactic(auto, using(crate::proofs::TypingLaws::typing_laws))]
 #[cycle(typing)]
 fn found_form(alloc: Global, sight: &Sight, scope: &Scope, a: &Expr) -> Result<Found, TypeError>

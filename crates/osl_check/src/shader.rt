@@ -120,7 +120,9 @@ fn typed(alloc: Global, tree: &Tree) -> Result<TypedShader, TypeError>
 }
 
 /// The typed tree of a syntax tree, with its sizes. `NoTyping` comes exactly where it has none, and `Memory` where memory
-/// was refused, or where more than 2^32 - 1 variables, structures or functions are declared.
+/// was refused, or where more than 2^32 - 1 variables, structures, functions or fields of one structure are declared, or
+/// blocks stand in each other. Its recursion is as deep as the tree, of which `osl_parse` makes none that is higher than
+/// 256. OSL specification, sections "Shader types", "Shader parameters" and "Functions".
 pub fn check(alloc: Global, tree: &Tree) -> Result<Typed, TypeError>
     ensures found { IfOk result (λ t. IsTypingOf tree.now t) }
     ensures none { result ≡ Err TypeError.NoTyping → (t : TypedShader) → IsTypingOf tree.now t → ⊥ }
