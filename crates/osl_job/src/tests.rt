@@ -17,7 +17,7 @@ type Row = (
     &'static str,
 );
 
-static ROWS: [Row; 39] = [
+static ROWS: [Row; 42] = [
     (
         "shade g p",
         GROUP,
@@ -175,6 +175,30 @@ static ROWS: [Row; 39] = [
         "shade g p",
         GROUP,
         "shader add1(output float r = 0) { break; }",
+        "point",
+        3,
+        "add1.osl: types\n",
+    ),
+    (
+        "shade g p",
+        GROUP,
+        "float f(float a, int b) { return a; } float f(int a, float b) { return b; } surface add1(output float r = 0) { r = f(1, 1); }",
+        "point",
+        3,
+        "add1.osl: types\n",
+    ),
+    (
+        "shade g p",
+        GROUP,
+        "void sw(output float a, output float b) { float t = a; a = b; b = t; } shader add1(output float r = 0) { float x = 1; sw(x, x); r = x; }",
+        "point",
+        3,
+        "add1.osl: types\n",
+    ),
+    (
+        "shade g p",
+        GROUP,
+        "shader add1(float P = 2, output float r = 0) { r = P + 0.5; }",
         "point",
         3,
         "add1.osl: types\n",

@@ -1,5 +1,5 @@
 use Rattle.std.proofs.Common.{ℕ, ◌∙◌, sym, subst, map, string_bytes, inl, inr}
-use Rattle.osl_job.specs.Status.{code_of}
+use Rattle.osl_job.specs.Status.{code_of, whole}
 use Rattle.osl_job.specs.Plan.{plan_for}
 use Rattle.osl_job.specs.Run.{text_of, IsStatus}
 use Rattle.osl_job.proofs.Reports.{nothing_written, complete_from_report, done_from_report, refusal_from_report, fault_from_report}
@@ -44,3 +44,6 @@ returns-in-Err-Fault-clause-cut_short g c cut files tells =
 pub returns-clause-cut_short : goal.returns-clause-cut_short
 returns-clause-cut_short g c cut files tells =
     (text_of c.in-Ok.report.lines.items, record { status = code_of c.in-Ok.report.status; report = c.in-Ok.ensures.report files tells; read_fault = c.in-Ok.ensures.cause.read_fault }, rw (← c.as_slice.ensures.value) c.in-Err-Memory.ensures.front)
+
+pub returns-in-Ok-print-clause-known : goal.returns-in-Ok-print-clause-known
+returns-in-Ok-print-clause-known g c = whole c.in-Ok.report.status c.code.ensures
