@@ -1,4 +1,4 @@
--- Arms of the typed form of an expression, each by itself: what a function that types one arm answers.
+-- Pieces of the typed form of an expression that `osl_typed` has no word for.
 use Rattle.std.specs.Prelude.{ℕ, Bool, false, ◌||◌, List, [], ◌∷◌, length, ◌==◌, if◌then◌else◌, Option, None, Some, is_some}
 use Rattle.osl_value.specs.declared.op_name.OpName.{OpName}
 use Rattle.osl_value.specs.declared.types.Ty.{Ty}
