@@ -1,7 +1,12 @@
-//! Code of a shader: flat operations over symbols, and what they mean.
+//! Code of a shader: flat operations over symbols, which code is valid, and what it means.
 //!
-//! The types are those of the text of code: a `Raw` is symbols, sections and ops as they stand there, and a `Shader` is a
-//! `Raw` that is valid.
+//! The types are those of the text of code: a `Raw` is symbols, sections and ops as they stand there. Contracts see a
+//! `Shader` as its `Raw`, which is valid.
+//!
+//! Definitions: `specs/Valid.antt` has `IsValid` and `first_flaw`, on which `Symbols`, `Names`, `Holding`, `Sections`,
+//! `Ops` and `Ranges` say what each part has to be; `specs/CodeRun.antt` has `code_run` and `ops_run`, over the steps of
+//! `Steps` and the runs of ranges of `Run`. What each operation takes and gives is the table of `osl_value`
+//! (`specs/Table.antt` there).
 #![tactic(auto)]
 
 pub mod checks;

@@ -1,15 +1,18 @@
+//! Code in tables, and its first flaw. What is expected follows from the rules of oso text (docs/CODE.md).
+
 ghost use Rattle.std.specs.Prelude.{◌≡◌, ◌<◌, ◌^◌, length, vec_len, IfOk};
+
+mod classes;
+mod metadata;
+mod ranges;
 
 use crate::{Class, CodeError, FlawKind, ListOf, Op, Raw, Section, ShaderKind, Symbol, validate};
 use osl_value::{Base, Memory, OpName, Text, Ty, Value};
 use std::alloc::Global;
 use std::test::Fail;
 
-struct Line {
-    name: OpName,
-    args: &'static [u32],
-    jumps: &'static [u32],
-}
+/// An op: its name, its arguments and its jumps.
+type Line = (OpName, &'static [u32], &'static [u32]);
 
 /// Ops over the symbols of `raw_of`, and their first flaw.
 struct Row {
@@ -18,121 +21,72 @@ struct Row {
     at: u32,
 }
 
-static ROWS: [Row; 9] = [
+static ROWS: [Row; 10] = [
     Row {
-        lines: &[Line {
-            name: OpName::Assign,
-            args: &[1, 0],
-            jumps: &[],
-        }],
+        lines: &[(OpName::Assign, &[1, 0], &[])],
         wrong: None,
         at: 0,
     },
     // A jump passes its section.
     Row {
-        lines: &[Line {
-            name: OpName::If,
-            args: &[3],
-            jumps: &[1, 2],
-        }],
+        lines: &[(OpName::If, &[3], &[1, 2])],
         wrong: Some(FlawKind::Jump),
         at: 0,
     },
     // A constant is written.
     Row {
-        lines: &[Line {
-            name: OpName::Assign,
-            args: &[2, 3],
-            jumps: &[],
-        }],
+        lines: &[(OpName::Assign, &[2, 3], &[])],
         wrong: Some(FlawKind::Op),
         at: 0,
     },
     // A parameter is written outside of its section.
     Row {
         lines: &[
-            Line {
-                name: OpName::Assign,
-                args: &[1, 0],
-                jumps: &[],
-            },
-            Line {
-                name: OpName::Assign,
-                args: &[0, 1],
-                jumps: &[],
-            },
+            (OpName::Assign, &[1, 0], &[]),
+            (OpName::Assign, &[0, 1], &[]),
         ],
         wrong: Some(FlawKind::Op),
         at: 1,
     },
     // There is no such symbol.
     Row {
-        lines: &[Line {
-            name: OpName::Assign,
-            args: &[1, 4],
-            jumps: &[],
-        }],
+        lines: &[(OpName::Assign, &[1, 4], &[])],
         wrong: Some(FlawKind::Op),
         at: 0,
     },
     // A condition is no int.
     Row {
-        lines: &[Line {
-            name: OpName::While,
-            args: &[0],
-            jumps: &[1, 1],
-        }],
+        lines: &[(OpName::While, &[0], &[1, 1])],
         wrong: Some(FlawKind::Op),
         at: 0,
     },
     // A `for` has three ranges.
     Row {
-        lines: &[Line {
-            name: OpName::For,
-            args: &[3],
-            jumps: &[1, 1],
-        }],
+        lines: &[(OpName::For, &[3], &[1, 1])],
         wrong: Some(FlawKind::Op),
         at: 0,
     },
     // A `break` stands in an `if` alone.
     Row {
-        lines: &[
-            Line {
-                name: OpName::If,
-                args: &[3],
-                jumps: &[2, 2],
-            },
-            Line {
-                name: OpName::Break,
-                args: &[],
-                jumps: &[],
-            },
-        ],
+        lines: &[(OpName::If, &[3], &[2, 2]), (OpName::Break, &[], &[])],
         wrong: Some(FlawKind::Jump),
         at: 1,
     },
     // A `break` stands in an `if` in a loop.
     Row {
         lines: &[
-            Line {
-                name: OpName::While,
-                args: &[3],
-                jumps: &[1, 3],
-            },
-            Line {
-                name: OpName::If,
-                args: &[3],
-                jumps: &[3, 3],
-            },
-            Line {
-                name: OpName::Break,
-                args: &[],
-                jumps: &[],
-            },
+            (OpName::While, &[3], &[1, 3]),
+            (OpName::If, &[3], &[3, 3]),
+            (OpName::Break, &[], &[]),
         ],
         wrong: None,
         at: 0,
+    },
+    // A fault of an op comes before one of a jump, wherever they are.
+    Row {
+        lines: &[(OpName::Break, &[], &[]), (OpName::Assign, &[2, 3], &[])],
+        wrong: Some(FlawKind::Op),
+        at: 1,
     },
 ];
 
@@ -432,10 +386,11 @@ fn flaw_of(alloc: Global, ops: Vec<Op>) -> Result<(Option<FlawKind>, u32), Memor
 }
 
 fn op(alloc: Global, line: &Line) -> Result<Op, Memory> {
+    let (name, args, jumps) = *line;
     Ok(Op {
-        name: line.name,
-        args: ListOf::new(line.args.to_vec(alloc)?),
-        jumps: ListOf::new(line.jumps.to_vec(alloc)?),
+        name,
+        args: ListOf::new(args.to_vec(alloc)?),
+        jumps: ListOf::new(jumps.to_vec(alloc)?),
     })
 }
 
