@@ -22,7 +22,7 @@ use Rattle.oso_code.specs.Steps as S
 use Rattle.oso_code.specs.Symbols.{is_global}
 use Rattle.oso_code.proofs.Members.{and_both}
 use Rattle.osl_interp.specs.Advances.{Asks}
-use Rattle.osl_interp.specs.Known.{is_wired, is_wired_at, is_given, given_reads, FitsAt, Fits}
+use Rattle.osl_interp.specs.Known.{is_wired, is_wired_at, is_given, given_reads, known_as, FitsAt, Fits}
 use Rattle.osl_interp.specs.Layers.{run_of, MayGo, IsAsking, Gave}
 use Rattle.osl_interp.specs.declared.layer_run.LayerRun.{LayerRun}
 use Rattle.osl_interp.specs.declared.layer_run.Status.TheVariants as R
@@ -99,6 +99,10 @@ asked_symbol c p ready waits = ⊎_elim (λ (lt : p < length c.code.symbols). lt
 abbrev pub GivenAs : Option AnyValue → Known → AnyValue → Type 0
 GivenAs None known w = known ≡ K.Nothing
 GivenAs (Some v) known w = (known ≡ K.Given) × (w ≡ v)
+
+given_known : (given : Option AnyValue) (known : Known) (w : AnyValue) → GivenAs given known w → known ≡ known_as given
+given_known None known w h = h
+given_known (Some v) known w h = h.0
 
 given_wired : (given : Option AnyValue) (known : Known) (w : AnyValue) → GivenAs given known w → is_wired (Some known) ≡ true
 given_wired None known w h = ap (λ x. is_wired (Some x)) h
@@ -226,6 +230,7 @@ gave old new p given known w asking as_given typed is status =
       ready = record { ready = subst Ready (sym is) (after_ready c p given known w g); may = subst MayGo (sym status) tt };
       resumed = status;
       code = ap (λ (x : Configuration). x.code) is;
+      inputs = ap (λ (x : Configuration). x.inputs) is ∙ ap (slice_set c.inputs p) (given_known given known w as_given);
       agrees = λ inputs h from. subst (λ (x : Configuration). Fits inputs x.inputs x.values) (sym is) (after_fits c p given known w g inputs h from);
       agreed = λ inputs h.
           let f = subst (λ (x : Configuration). Fits inputs x.inputs x.values) is h in

@@ -13,7 +13,7 @@ use Rattle.oso_code.specs.Steps as S
 use Rattle.oso_code.proofs.Lasting.{then_lasts, after_lasts, call_lasts, on_lasts, turn_lasts, looped_lasts, test_lasts, range_lasts, count_lasts}
 use Rattle.osl_interp.specs.Advances.{Asks, EndsAs}
 use Rattle.osl_interp.specs.Known.{given_reads, Fits}
-use Rattle.osl_interp.specs.Layers.{Goes, Finishes, Fails, run_of, comes_to, AreKept, Done, Spends, Needs}
+use Rattle.osl_interp.specs.Layers.{Goes, Finishes, Fails, RunDone, Counted, run_of, comes_to, AreKept, Done, Spends, Needs}
 use Rattle.osl_interp.specs.Meaning.{Configuration, run_range, from_test, from_turn, from_step, behind, close, resume, now, state_of, later_sections, comes_from, meaning}
 use Rattle.osl_interp.specs.declared.frame.Frame.{Frame}
 use Rattle.osl_interp.specs.declared.frame.Frame.TheVariants.{Rest, Called, Test, Body, Step}
@@ -22,6 +22,8 @@ use Rattle.osl_interp.specs.declared.frame.Mode.{Mode}
 use Rattle.osl_interp.specs.declared.frame.Mode.TheVariants as M
 use Rattle.osl_interp.specs.declared.layer_run.LayerRun.{LayerRun}
 use Rattle.osl_interp.specs.declared.layer_run.Status.TheVariants as T
+use Rattle.osl_interp.specs.declared.run.End.{End}
+use Rattle.osl_interp.specs.declared.run.End.TheVariants as E
 
 module _ (P : State → Type 0) (keeps : Lasts P) where
   module _ (from : Sources) (steps : List S.Step) where
@@ -111,15 +113,48 @@ needs old new a b p g asks status =
           omega (arith, le, x);
     }
 
-ended_given : (code : Raw) (o : Outcome) (s : State) → EndsAs o s → given_at code o ≡ Some (given_by code s)
-ended_given code (Next t) s h = ap (λ x. Some (given_by code x)) h
-ended_given code (Leaves way t) s h = ap (λ x. Some (given_by code x)) h
-ended_given code (Spent t) s h = absurd h
+-- ---- the count, however the run ends
 
 ended_last : (o : Outcome) (s : State) → EndsAs o s → last o ≡ s
 ended_last (Next t) s h = h
 ended_last (Leaves way t) s h = h
 ended_last (Spent t) s h = absurd h
+
+pub goes_counted : (old new : Configuration) (a b : ℕ) → Goes old new a b → Counted old a b
+goes_counted old new a b g =
+    let x = g.grows in
+    record {
+      grows = x;
+      within = λ inputs h n.
+          let le = subst (λ o. n + (b - a) ≤ (last o).ops) (g.same inputs h n) (asked_ops inputs new (n + (b - a))) in
+          omega (arith, le, x);
+    }
+
+pub finishes_counted : (old new : Configuration) (a b : ℕ) → Finishes old new a b → Counted old a b
+finishes_counted old new a b f =
+    let x = f.grows in
+    record {
+      grows = x;
+      within = λ inputs h n. let e : (last (meaning inputs n old)).ops ≡ n + (b - a) = ap (λ s. s.ops) (ended_last (meaning inputs n old) (state_of (n + (b - a)) new) (f.ends inputs h n)) in omega (arith, e, x);
+    }
+
+pub fails_counted : (old new : Configuration) (a b : ℕ) → Fails old new a b → Counted old a b
+fails_counted old new a b f =
+    let x = f.grows in
+    record {
+      grows = x;
+      within = λ inputs h n. let e : (last (meaning inputs n old)).ops ≡ n + (b - a) = ap (λ o. (last o).ops) (f.ends inputs h n) in omega (arith, e, x);
+    }
+
+pub run_counted : (old new : Configuration) (a b : ℕ) (end : End) → RunDone old new a b end → Counted old a b
+run_counted old new a b E.Done h = finishes_counted old new a b h
+run_counted old new a b E.Spent h = fails_counted old new a b h
+run_counted old new a b (E.Needs p) h = goes_counted old new a b h.0
+
+ended_given : (code : Raw) (o : Outcome) (s : State) → EndsAs o s → given_at code o ≡ Some (given_by code s)
+ended_given code (Next t) s h = ap (λ x. Some (given_by code x)) h
+ended_given code (Leaves way t) s h = ap (λ x. Some (given_by code x)) h
+ended_given code (Spent t) s h = absurd h
 
 pub done : (old mid new : LayerRun) (a b : ℕ) → Finishes (run_of old) (run_of mid) a b → run_of new ≡ run_of mid → AreKept (run_of new).code.symbols new.machine.slots.items → new.status ≡ T.Done → Done old new a b
 done old mid new a b h is kept status =

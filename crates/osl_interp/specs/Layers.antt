@@ -1,5 +1,5 @@
 -- What the calls on a run of a layer give: the run that the meaning of code says, as far as its inputs were given.
-use Rattle.std.specs.Prelude.{◌≡◌, ℕ, ◌+◌, ◌-◌, ◌≤◌, ◌<◌, nat_lt, Bool, true, false, List, Option, Some, None, length, slice_get, IsTrue}
+use Rattle.std.specs.Prelude.{◌≡◌, ℕ, ◌+◌, ◌-◌, ◌≤◌, ◌<◌, nat_lt, Bool, true, false, List, Option, Some, None, length, slice_get, slice_set, IsTrue}
 use Rattle.osl_value.specs.AnyValue.{AnyValue, Of, Parts, type_of}
 use Rattle.osl_value.specs.Plain.{Plain}
 use Rattle.osl_value.specs.declared.point.Point.{Point}
@@ -13,7 +13,7 @@ use Rattle.oso_code.specs.CodeRun.{is_parameter_at, given_at, given_by, layer_ou
 use Rattle.oso_code.specs.Ops.{type_at}
 use Rattle.oso_code.specs.Run.{Outcome, Spent, last}
 use Rattle.osl_interp.specs.Advances.{Asks, EndsAs, work}
-use Rattle.osl_interp.specs.Known.{Fits, given_reads}
+use Rattle.osl_interp.specs.Known.{Fits, given_reads, known_as}
 use Rattle.osl_interp.specs.Meaning.{Configuration, configuration, state_of, meaning}
 use Rattle.osl_interp.specs.Ready.{Ready, IsLaid}
 use Rattle.osl_interp.specs.declared.layer_run.Given.{Given}
@@ -54,6 +54,11 @@ pub record Fails (old new : Configuration) (a b : ℕ) : Type 0 where
   pub inputs_stay : new.inputs ≡ old.inputs
   pub grows : a ≤ b
   pub ends : (inputs : L.Inputs) → Fits inputs old.inputs old.values → (n : ℕ) → meaning inputs n old ≡ Spent (state_of (n + (b - a)) new)
+
+-- what holds of the count however it ends: it has not fallen, and has risen by no more than all that the run counts
+pub record Counted (old : Configuration) (a b : ℕ) : Type 0 where
+  pub grows : a ≤ b
+  pub within : (inputs : L.Inputs) → Fits inputs old.inputs old.values → (n : ℕ) → n + b ≤ (last (meaning inputs n old)).ops + a
 
 abbrev pub StepDone : Configuration → Configuration → ℕ → ℕ → Stop → Type 0
 StepDone old new a b T.Going = Goes old new a b × (work new < work old)
@@ -202,6 +207,8 @@ pub record Gave (old new : LayerRun) (p : ℕ) (given : Option AnyValue) : Type 
   pub ready : IsReady new
   pub resumed : new.status ≡ S.Resumed
   pub code : (run_of new).code ≡ (run_of old).code
+  -- it is known of p, and of the others what was known
+  pub inputs : (run_of new).inputs ≡ slice_set (run_of old).inputs p (known_as given)
   pub agrees : (inputs : L.Inputs) → Agrees inputs old → inputs p ≡ L.From given → Agrees inputs new
   pub agreed : (inputs : L.Inputs) → Agrees inputs new → Agrees inputs old × (inputs p ≡ L.From given)
   pub same : (inputs : L.Inputs) → Agrees inputs new → (n : ℕ) → comes_to inputs n new ≡ comes_to inputs n old

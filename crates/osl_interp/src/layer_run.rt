@@ -4,7 +4,7 @@ ghost use Rattle.std.specs.Prelude.{◌≡◌, ◌+◌, Some, None, IfOk, OnOk};
 ghost use Rattle.osl_value.specs.AnyValue.{argument, type_of};
 ghost use Rattle.osl_apply.specs.Slots.{seen};
 ghost use Rattle.oso_code.specs.Ops.{type_at};
-ghost use Rattle.osl_interp.specs.Layers.{InputsFit, Started, IsReady, IsAsking, IsDone, GoDone, Gave, begins, input_of, HasType, IsOutput, seen_output, given_of, run_of};
+ghost use Rattle.osl_interp.specs.Layers.{InputsFit, Started, IsReady, IsAsking, IsDone, GoDone, Gave, begins, input_of, HasType, IsOutput, Counted, seen_output, given_of, run_of};
 
 use crate::known::Known;
 use crate::machine::Machine;
@@ -87,7 +87,8 @@ impl<'a> LayerRun<'a> {
     }
 
     /// Runs until the run is done, spent, or at the read of a connected parameter that was not given.
-    /// The first call ticks `layers`; `ops` ticks each time that the run comes to an op from outside its ranges.
+    /// The first call ticks `layers`; `ops` ticks each time that the run comes to an op from outside its ranges. Whatever the
+    /// answer, `ops` has risen by no more than what the whole run counts.
     pub fn go<L: Ledger, M: Ledger>(
         &mut self,
         arena: &'a Bump,
@@ -97,6 +98,7 @@ impl<'a> LayerRun<'a> {
         requires { IsReady self.old }
         ensures stop { IfOk result (λ stop. GoDone self.old self.new ops.old ops.new stop) }
         ensures layers { layers.new ≡ layers.old + begins self.old.status }
+        ensures ops { Counted (run_of self.old) ops.old ops.new }
     {
         if self.status == Status::Fresh {
             layers.tick();

@@ -1,7 +1,7 @@
 //! Steps, one after another.
 
-ghost use Rattle.std.specs.Prelude.{true, false, ◌≡◌, ◌≤◌, ◌<◌, IfOk};
-ghost use Rattle.osl_interp.specs.Layers.{StepDone, RunDone};
+ghost use Rattle.std.specs.Prelude.{true, false, ◌≡◌, ◌≤◌, ◌<◌, IfOk, OnErr};
+ghost use Rattle.osl_interp.specs.Layers.{StepDone, RunDone, Counted};
 ghost use Rattle.osl_interp.specs.Meaning.{configuration};
 ghost use Rattle.osl_interp.specs.Ready.{Ready};
 
@@ -40,7 +40,8 @@ fn step<'a, L: Ledger>(
     ops: &mut Steps<L>,
 ) -> Result<Stop, Memory>
     requires { Ready (configuration m.old) }
-    ensures { IfOk result (λ stop. StepDone (configuration m.old) (configuration m.new) ops.old ops.new stop) }
+    ensures stop { IfOk result (λ stop. StepDone (configuration m.old) (configuration m.new) ops.old ops.new stop) }
+    ensures err { OnErr result (ops.new ≡ ops.old) }
 {
     if !is_running(m) {
         let stop = leave(m)?;
@@ -70,7 +71,8 @@ pub fn run<'a, L: Ledger>(
     ops: &mut Steps<L>,
 ) -> Result<End, Memory>
     requires { Ready (configuration m.old) }
-    ensures { IfOk result (λ end. RunDone (configuration m.old) (configuration m.new) ops.old ops.new end) }
+    ensures end { IfOk result (λ end. RunDone (configuration m.old) (configuration m.new) ops.old ops.new end) }
+    ensures ops { Counted (configuration m.old) ops.old ops.new }
 {
     'steps: loop {
         match step(m, arena, ops)? {

@@ -3,6 +3,7 @@
 
 mod closures;
 mod control;
+mod globals;
 mod inputs;
 mod layers;
 mod operations;

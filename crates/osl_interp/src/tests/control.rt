@@ -57,7 +57,7 @@ static SYMBOLS: [(Class, &str, Option<i32>); 10] = [
     (Class::Temp, "t", None),
 ];
 
-static CASES: [Case; 26] = [
+static CASES: [Case; 29] = [
     Case {
         name: "a default",
         sections: &[(None, 0, 1)],
@@ -389,6 +389,53 @@ static CASES: [Case; 26] = [
         inputs: [0, 0, 0],
         asks: &[],
         gives: Some(6),
+    },
+    Case {
+        name: "the other side of an if",
+        sections: &[(None, 0, 4)],
+        ops: &[
+            (OpName::If, &[ZERO], &[2, 3]),
+            (OpName::Add, &[R, R, ONE], &[]),
+            (OpName::Add, &[R, R, TEN], &[]),
+            (OpName::Add, &[R, R, THREE], &[]),
+        ],
+        budget: 0,
+        inputs: [0, 0, 0],
+        asks: &[],
+        gives: Some(13),
+    },
+    Case {
+        name: "a break in a condition leaves the loop around",
+        sections: &[(None, 0, 6)],
+        ops: &[
+            (OpName::While, &[ONE], &[1, 5]),
+            (OpName::While, &[ONE], &[3, 4]),
+            (OpName::Break, &[], &[]),
+            (OpName::Add, &[R, R, TEN], &[]),
+            (OpName::Add, &[R, R, THREE], &[]),
+            (OpName::Add, &[R, R, ONE], &[]),
+        ],
+        budget: 1,
+        inputs: [0, 0, 0],
+        asks: &[],
+        gives: Some(1),
+    },
+    Case {
+        name: "a continue in a step goes on with the loop around",
+        sections: &[(None, 0, 7)],
+        ops: &[
+            (OpName::For, &[T], &[2, 6, 7]),
+            (OpName::Lt, &[T, I, THREE], &[]),
+            (OpName::For, &[ONE], &[3, 4, 5]),
+            (OpName::Add, &[R, R, ONE], &[]),
+            (OpName::Continue, &[], &[]),
+            (OpName::Add, &[R, R, TEN], &[]),
+            (OpName::Add, &[I, I, ONE], &[]),
+        ],
+        budget: 6,
+        inputs: [0, 0, 0],
+        asks: &[],
+        gives: Some(3),
     },
 ];
 
