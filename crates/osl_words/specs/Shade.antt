@@ -14,7 +14,7 @@ from_oso None = Some false
 from_oso (Some text) =
     if bytes_eq text (codes "osl") then Some false else (if bytes_eq text (codes "oso") then Some true else None)
 
--- a file may not have the name of the flag
+-- a file may not have the name of the flag, so that whether a job is serial can be told by looking for this word alone
 abbrev pub names_flag : Text → Bool
 names_flag text = bytes_eq text (codes "--serial")
 
