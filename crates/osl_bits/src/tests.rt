@@ -17,6 +17,29 @@ fn multiples(alloc: Global, len: u32, step: u32) -> Result<BitRow, Memory>
     Ok(row)
 }
 
+/// Whether the rows have the same bit at each place.
+fn same_bits(first: &BitRow, second: &BitRow, len: u32) -> bool
+    requires first { length first.now ≡ len }
+    requires second { length second.now ≡ len }
+{
+    for i in 0..len {
+        if first.test(i) != second.test(i) {
+            return false;
+        }
+    }
+    true
+}
+
+/// A row that was just made has its length, and no bit of it is set.
+fn made(rt: &impl Abort, alloc: Global, len: u32) -> Result<(), Memory> {
+    let row = BitRow::make(alloc, len)?;
+    assert_eq!(rt; row.length(), len);
+    for i in 0..len {
+        assert!(rt; !row.test(i), "{i} of {len}");
+    }
+    Ok(())
+}
+
 /// Joins and takes away the multiples of 2 and 3, and looks at every bit.
 fn compare(rt: &impl Abort, alloc: Global, len: u32) -> Result<(), Memory> {
     let twos = multiples(alloc, len, 2)?;
@@ -26,30 +49,35 @@ fn compare(rt: &impl Abort, alloc: Global, len: u32) -> Result<(), Memory> {
     let mut rest = multiples(alloc, len, 2)?;
     rest.minus_with(&threes);
     for i in 0..len {
-        assert_eq!(rt; twos.test(i), i % 2 == 0, "{i} of {len}");
-        assert_eq!(rt;
-            both.test(i),
-            i % 2 == 0 || i % 3 == 0,
-            "union {i} of {len}"
-        );
-        assert_eq!(rt;
-            rest.test(i),
-            i % 2 == 0 && i % 3 != 0,
-            "minus {i} of {len}"
-        );
+        let (two, three) = (twos.test(i), threes.test(i));
+        assert_eq!(rt; two, i % 2 == 0, "{i} of {len}");
+        assert_eq!(rt; three, i % 3 == 0, "{i} of {len}");
+        assert_eq!(rt; both.test(i), two || three, "union {i} of {len}");
+        assert_eq!(rt; rest.test(i), two && !three, "minus {i} of {len}");
     }
+    assert_eq!(rt;
+        twos.equal(&threes),
+        same_bits(&twos, &threes, len),
+        "{len}"
+    );
+    assert_eq!(rt; twos.equal(&both), same_bits(&twos, &both, len), "{len}");
+    assert_eq!(rt; twos.equal(&rest), same_bits(&twos, &rest, len), "{len}");
     Ok(())
 }
 
-/// A row is equal to itself, and not to one whose last bit is another.
-fn last_bit(rt: &impl Abort, alloc: Global, len: u32) -> Result<(), Memory> {
+/// A row is equal to itself, and not to one that differs in one bit, wherever that stands.
+fn one_bit(rt: &impl Abort, alloc: Global, len: u32) -> Result<(), Memory> {
     let row = multiples(alloc, len, 3)?;
     let mut other = multiples(alloc, len, 3)?;
-    assert_eq!(rt; row.length(), len);
-    assert!(rt; row.equal(&other), "{len}");
-    if len > 0 {
-        other.set(len - 1, !other.test(len - 1));
-        assert!(rt; !row.equal(&other), "{len}");
+    assert!(rt; row.equal(&other) && same_bits(&row, &other, len), "{len}");
+    for place in [0, 63, 64, len / 2, len.saturating_sub(1)] {
+        if place < len {
+            other.set(place, !row.test(place));
+            assert!(rt; !row.equal(&other), "{place} of {len}");
+            assert!(rt; !same_bits(&row, &other, len), "{place} of {len}");
+            other.set(place, row.test(place));
+            assert!(rt; row.equal(&other), "{place} of {len}");
+        }
     }
     Ok(())
 }
@@ -57,8 +85,9 @@ fn last_bit(rt: &impl Abort, alloc: Global, len: u32) -> Result<(), Memory> {
 #[test]
 fn rows_of_each_length(rt: HostRuntime) -> Result<(), Fail> {
     for len in 0..=1100 {
+        made(&rt, rt.alloc(), len)?;
         compare(&rt, rt.alloc(), len)?;
-        last_bit(&rt, rt.alloc(), len)?;
+        one_bit(&rt, rt.alloc(), len)?;
     }
     Ok(())
 }

@@ -132,6 +132,30 @@ fn costs_are_added(rt: HostRuntime) -> Result<(), Fail> {
 }
 
 #[test]
+fn one_candidate_and_three(rt: HostRuntime) -> Result<(), Fail> {
+    let alloc = rt.alloc();
+    let ints = [value(of(Base::Int))];
+    let string = function(alloc, &[input(of(Base::Str))])?;
+    assert_eq!(rt; choose(&[string], &ints), Choice::NoCandidate);
+    let (color, point) = (Base::Color, Base::Point);
+    let rows = [
+        ([color, point, Base::Float], Choice::Chosen(2)),
+        ([color, Base::Float, point], Choice::Chosen(1)),
+        ([Base::Float, color, point], Choice::Chosen(0)),
+        ([color, point, Base::Vector], Choice::Ambiguous),
+    ];
+    for (bases, wanted) in rows {
+        let candidates = [
+            function(alloc, &[input(of(bases[0]))])?,
+            function(alloc, &[input(of(bases[1]))])?,
+            function(alloc, &[input(of(bases[2]))])?,
+        ];
+        assert_eq!(rt; choose(&candidates, &ints), wanted, "{bases:?}");
+    }
+    Ok(())
+}
+
+#[test]
 fn outputs_keep_their_kind(rt: HostRuntime) -> Result<(), Fail> {
     let alloc = rt.alloc();
     let output = Formal {

@@ -121,6 +121,13 @@ fn words_that_ask_for_none(rt: HostRuntime) -> Result<(), Fail> {
         "demo 257",
         "demo -1",
         "demo 1 2",
+        "demo seven",
+        "demo-text",
+        "demo-text 0",
+        "demo-text 257",
+        "demo-text -1",
+        "demo-text 1 2",
+        "demo-text seven",
         "demo-texts 7",
         "help",
     ];
