@@ -1,10 +1,11 @@
 //! What `=` and `op=` take (OSL specification, section "Operators"): targets, promotions, operations.
 
+use super::calls::all_kinds_have;
 use super::{Verdict, all_bodies_have};
 use std::test::Fail;
 
 /// Assignments that are taken.
-static TAKEN: [&str; 70] = [
+static TAKEN: [&str; 71] = [
     "i = 2;",
     "f = 1.5;",
     "c = cs[0];",
@@ -65,6 +66,7 @@ static TAKEN: [&str; 70] = [
     "k += emission();",
     "k *= f;",
     "k *= c;",
+    "k *= i;",
     "f -= 1;",
     "f /= 2;",
     "i <<= 2;",
@@ -78,7 +80,7 @@ static TAKEN: [&str; 70] = [
 ];
 
 /// Assignments that are refused.
-static REFUSED: [&str; 89] = [
+static REFUSED: [&str; 93] = [
     "i = f;",
     "i = c;",
     "f = c;",
@@ -168,10 +170,38 @@ static REFUSED: [&str; 89] = [
     "q += q;",
     "k += 0;",
     "m *= f;",
+    "f *= k;",
+    "i *= k;",
+    "c *= k;",
+    "f += k;",
+];
+
+/// Assignments with the type that they have: that of their target.
+static GIVEN: [&str; 4] = [
+    "a_float = kind(f = i); a_float = kind(f += i); a_float = kind(f *= i); an_int = kind(i = 1); an_int = kind(i += 1); an_int = kind(i <<= 1);",
+    "a_color = kind(c = f); a_color = kind(c += i); a_color = kind(c *= f); a_matrix = kind(m *= m); a_string = kind(t = t);",
+    "a_point = kind(p = v); a_point = kind(p = n); a_point = kind(p = 0); a_point = kind(p += v); a_point = kind(p -= n); a_vector = kind(v = p); a_vector = kind(v = n); a_vector = kind(v += p); a_normal = kind(n = p); a_normal = kind(n = v); a_normal = kind(n *= v);",
+    "a_closure = kind(k = 0); a_closure = kind(k += k); a_closure = kind(k *= f); a_closure = kind(k *= c); floats = kind(fs = gs); a_float = kind(c.r = 1); a_float = kind(fs[0] = i); a_float = kind(q.a = 1);",
+];
+
+/// Types that assignments do not have.
+static NOT_GIVEN: [&str; 6] = [
+    "an_int = kind(f = i);",
+    "a_float = kind(c = f);",
+    "a_vector = kind(p = v);",
+    "a_vector = kind(p += v);",
+    "a_normal = kind(v = n);",
+    "an_int = kind(k = 0);",
 ];
 
 #[test]
 fn assignments_take_promotions_and_writable_targets(rt: HostRuntime) -> Result<(), Fail> {
     all_bodies_have(&rt, rt.alloc(), &TAKEN, Verdict::Typed)?;
     all_bodies_have(&rt, rt.alloc(), &REFUSED, Verdict::Untyped)
+}
+
+#[test]
+fn assignments_have_the_type_of_their_target(rt: HostRuntime) -> Result<(), Fail> {
+    all_kinds_have(&rt, rt.alloc(), &GIVEN, Verdict::Typed)?;
+    all_kinds_have(&rt, rt.alloc(), &NOT_GIVEN, Verdict::Untyped)
 }

@@ -1,5 +1,6 @@
 //! Casts and constructors (OSL specification, section "Data types").
 
+use super::calls::all_kinds_have;
 use super::{Verdict, all_bodies_have};
 use std::test::Fail;
 
@@ -90,8 +91,35 @@ static REFUSED: [&str; 46] = [
     "color(m[0], 1, 2);",
 ];
 
+/// Casts and constructors with the type that they give.
+static GIVEN: [&str; 6] = [
+    "an_int = kind((int) f); an_int = kind(int(f)); a_float = kind((float) i); a_float = kind(float(i));",
+    "a_color = kind((color) p); a_color = kind((color) f); a_color = kind(color(v)); a_color = kind(color(1)); a_color = kind(color(1, 2, 3));",
+    "a_point = kind((point) c); a_point = kind((point) n); a_point = kind(point(v)); a_point = kind(point(1)); a_point = kind(point(1, 2, 3));",
+    "a_vector = kind((vector) p); a_vector = kind((vector) c); a_vector = kind(vector(n)); a_vector = kind(vector(1)); a_vector = kind(vector(1, 2, 3));",
+    "a_normal = kind((normal) v); a_normal = kind((normal) c); a_normal = kind(normal(p)); a_normal = kind(normal(1)); a_normal = kind(normal(1, 2, 3));",
+    "a_matrix = kind(matrix(1)); a_matrix = kind(matrix(1, 0, 0, 0, 0, 1, 0, 0, 0, 0, 1, 0, 0, 0, 0, 1));",
+];
+
+/// Types that casts and constructors do not give.
+static NOT_GIVEN: [&str; 7] = [
+    "an_int = kind((float) i);",
+    "a_float = kind(int(f));",
+    "a_point = kind((vector) p);",
+    "a_vector = kind((point) v);",
+    "a_vector = kind(normal(v));",
+    "a_point = kind(vector(1, 2, 3));",
+    "a_vector = kind(point(1));",
+];
+
 #[test]
 fn constructors_take_numbers_and_triples(rt: HostRuntime) -> Result<(), Fail> {
     all_bodies_have(&rt, rt.alloc(), &TAKEN, Verdict::Typed)?;
     all_bodies_have(&rt, rt.alloc(), &REFUSED, Verdict::Untyped)
+}
+
+#[test]
+fn constructors_give_their_types(rt: HostRuntime) -> Result<(), Fail> {
+    all_kinds_have(&rt, rt.alloc(), &GIVEN, Verdict::Typed)?;
+    all_kinds_have(&rt, rt.alloc(), &NOT_GIVEN, Verdict::Untyped)
 }

@@ -61,7 +61,7 @@ static TAKEN: [&str; 53] = [
 ];
 
 /// Declarations that are refused.
-static REFUSED: [&str; 53] = [
+static REFUSED: [&str; 54] = [
     "float f;",
     "int f;",
     "float a, a;",
@@ -73,6 +73,7 @@ static REFUSED: [&str; 53] = [
     "float given;",
     "string result = t;",
     "if (i) float a = 1; a = 2;",
+    "if (i) ; else float a; a = 1;",
     "while (i) float a; a = 1;",
     "for (int j = 0; ; ) {} j = 1;",
     "for (int j = 0, j = 1; ; ) {}",

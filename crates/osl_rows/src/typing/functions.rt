@@ -4,7 +4,7 @@ use super::{Verdict, all_have};
 use std::test::Fail;
 
 /// Sources whose functions are taken.
-static TAKEN: [&str; 35] = [
+static TAKEN: [&str; 47] = [
     "float h() { return 1; } surface s() {}",
     "float h() { return 1.5; } surface s() {}",
     "color h(float a) { return a; } surface s() {}",
@@ -35,6 +35,18 @@ static TAKEN: [&str; 35] = [
     "int exit(int a) { return 1; } surface s() {}",
     "string substr(string a) { return a; } surface s() {}",
     "int abs(float a, float b) { return 1; } surface s() {}",
+    "float dot(point a, point b) { return 1; } float dot(normal a, normal b) { return 1; } float dot(vector a, point b) { return 1; } surface s() {}",
+    "float cross(point a, point b) { return 1; } float cross(normal a, normal b) { return 1; } float cross(vector a, normal b) { return 1; } surface s() {}",
+    "float length(point a) { return 1; } float length(normal a) { return 1; } surface s() {}",
+    "float distance(vector a, vector b) { return 1; } float distance(normal a, normal b) { return 1; } float distance(point a, vector b) { return 1; } surface s() {}",
+    "float normalize(point a) { return 1; } float normalize(color a) { return 1; } surface s() {}",
+    "float transform(matrix a, normal b) { return 1; } float transform(matrix a, color b) { return 1; } surface s() {}",
+    "closure color diffuse(point a) { return 0; } closure color diffuse(vector a) { return 0; } surface s() {}",
+    "closure color translucent(point a) { return 0; } closure color translucent(vector a) { return 0; } surface s() {}",
+    "closure color oren_nayar(point a, float b) { return 0; } closure color oren_nayar(vector a, float b) { return 0; } closure color oren_nayar(normal a, int b) { return 0; } surface s() {}",
+    "closure color reflection(point a, float b) { return 0; } closure color reflection(vector a, float b) { return 0; } closure color reflection(normal a, int b) { return 0; } surface s() {}",
+    "closure color refraction(point a, float b) { return 0; } closure color refraction(vector a, float b) { return 0; } closure color refraction(normal a, int b) { return 0; } surface s() {}",
+    "float mix(float a, float b, int c) { return 1; } float mix(point a, vector b, float c) { return 1; } float mix(normal a, point b, float c) { return 1; } surface s() {}",
     "int arraylength(float a[2], float b[2]) { return 1; } surface s() {}",
     "struct h { float a; }; float h() { return 1; } surface s() {}",
     "float s() { return 1; } surface s() {}",
@@ -43,7 +55,7 @@ static TAKEN: [&str; 35] = [
 ];
 
 /// Sources with a function or a call that is refused.
-static REFUSED: [&str; 54] = [
+static REFUSED: [&str; 71] = [
     "float h() { return \"x\"; } surface s() {}",
     "int h() { return 1.5; } surface s() {}",
     "float h() { return; } surface s() {}",
@@ -96,6 +108,23 @@ static REFUSED: [&str; 54] = [
     "closure color emission() { return 0; } surface s() {}",
     "float mix(color a, color b, float c) { return 1; } surface s() {}",
     "float dot(vector a, vector b) { return 1; } surface s() {}",
+    "vector cross(vector a, vector b) { return a; } surface s() {}",
+    "float length(vector a) { return 1; } surface s() {}",
+    "float distance(point a, point b) { return 1; } surface s() {}",
+    "vector normalize(vector a) { return a; } surface s() {}",
+    "normal normalize(normal a) { return a; } surface s() {}",
+    "point transform(matrix a, point b) { return b; } surface s() {}",
+    "vector transform(matrix a, vector b) { return b; } surface s() {}",
+    "matrix transpose(matrix a) { return a; } surface s() {}",
+    "closure color diffuse(normal a) { return 0; } surface s() {}",
+    "closure color translucent(normal a) { return 0; } surface s() {}",
+    "closure color oren_nayar(normal a, float b) { return 0; } surface s() {}",
+    "closure color reflection(normal a, float b) { return 0; } surface s() {}",
+    "closure color refraction(normal a, float b) { return 0; } surface s() {}",
+    "closure color debug(string a) { return 0; } surface s() {}",
+    "point mix(point a, point b, float c) { return a; } surface s() {}",
+    "vector mix(vector a, vector b, float c) { return a; } surface s() {}",
+    "normal mix(normal a, normal b, float c) { return a; } surface s() {}",
     "float h() { return 1; } surface s() { j(); } ",
     "surface s() { s(); }",
 ];

@@ -1,21 +1,18 @@
 //! What operators take and give (OSL specification, section "Operators"), with choices, indices, components and fields.
 
+use super::calls::all_kinds_have;
 use super::{Verdict, all_bodies_have};
 use std::test::Fail;
 
 /// Statements that are taken.
-static TAKEN: [&str; 95] = [
+static TAKEN: [&str; 88] = [
     "i = i + i;",
     "f = i + f;",
     "f = f + i;",
     "c = f + c;",
     "c = c + i;",
     "c = c + c;",
-    "p = p + p;",
-    "v = p - v;",
-    "v = n + p;",
     "c = c / c;",
-    "p = p * p;",
     "c = i / c;",
     "k = k + k;",
     "m = m * m;",
@@ -71,9 +68,6 @@ static TAKEN: [&str; 95] = [
     "result++;",
     "f = i ? f : i;",
     "c = f ? c : f;",
-    "v = i ? p : v;",
-    "v = i ? n : p;",
-    "p = i ? p : p;",
     "k = i ? k : 0;",
     "k = i ? 0 : k;",
     "t = i ? t : t;",
@@ -247,8 +241,79 @@ static REFUSED: [&str; 141] = [
     "s;",
 ];
 
+/// Expressions with the type that they have.
+static GIVEN: [&str; 25] = [
+    "an_int = kind(i + i); an_int = kind(i - i); an_int = kind(i * i); an_int = kind(i / i);",
+    "a_float = kind(i + f); a_float = kind(f - i); a_float = kind(f * f); a_float = kind(i / f);",
+    "a_color = kind(c + c); a_color = kind(c - f); a_color = kind(f * c); a_color = kind(c / i); a_color = kind(i - c);",
+    "a_point = kind(p + p); a_point = kind(p - p); a_point = kind(p * p); a_point = kind(p / p);",
+    "a_point = kind(p + f); a_point = kind(f - p); a_point = kind(p * i); a_point = kind(i / p);",
+    "a_vector = kind(v + v); a_vector = kind(v - v); a_vector = kind(v * v); a_vector = kind(v / v); a_vector = kind(v - f); a_vector = kind(i * v);",
+    "a_normal = kind(n + n); a_normal = kind(n - n); a_normal = kind(n * n); a_normal = kind(n / n); a_normal = kind(f + n); a_normal = kind(n / i);",
+    "a_vector = kind(p + v); a_vector = kind(p - v); a_vector = kind(p * v); a_vector = kind(p / v); a_vector = kind(v + p);",
+    "a_vector = kind(p + n); a_vector = kind(n - p); a_vector = kind(p * n); a_vector = kind(n / p); a_vector = kind(n + p);",
+    "a_vector = kind(v + n); a_vector = kind(n - v); a_vector = kind(v * n); a_vector = kind(n / v); a_vector = kind(n + v);",
+    "a_vector = kind(P + N); a_vector = kind(P - I); a_vector = kind(N + I); a_vector = kind((p + p) + n);",
+    "a_matrix = kind(m * m);",
+    "a_closure = kind(k + k); a_closure = kind(k * i); a_closure = kind(k * f); a_closure = kind(k * c); a_closure = kind(i * k); a_closure = kind(f * k); a_closure = kind(c * k); a_closure = kind(0 * k);",
+    "an_int = kind(i % i); an_int = kind(i << i); an_int = kind(i >> i); an_int = kind(i & i); an_int = kind(i | i); an_int = kind(i ^ i); an_int = kind(~i);",
+    "an_int = kind(f < f); an_int = kind(f <= i); an_int = kind(i > f); an_int = kind(f >= f); an_int = kind(f == f); an_int = kind(i != f); an_int = kind(c == c); an_int = kind(p != n); an_int = kind(t == t); an_int = kind(m != m);",
+    "an_int = kind(f && f); an_int = kind(f || f); an_int = kind(!f); an_int = kind(i && f); an_int = kind(not f);",
+    "an_int = kind(-i); an_int = kind(+i); a_float = kind(-f); a_float = kind(+f); a_color = kind(-c); a_color = kind(+c); a_point = kind(-p); a_point = kind(+p); a_vector = kind(-v); a_vector = kind(+v); a_normal = kind(-n); a_normal = kind(+n);",
+    "an_int = kind(i++); an_int = kind(--i); a_float = kind(f--); a_float = kind(++f);",
+    "an_int = kind(i ? 1 : i); an_int = kind(f ? i : i); a_float = kind(i ? f : i); a_float = kind(i ? i : f); a_float = kind(i ? f : f);",
+    "a_color = kind(i ? c : c); a_color = kind(i ? c : f); a_color = kind(i ? 1 : c); a_string = kind(i ? t : t); a_matrix = kind(i ? m : m);",
+    "a_point = kind(i ? p : p); a_point = kind(i ? p : f); a_point = kind(i ? i : p); a_vector = kind(i ? v : v); a_vector = kind(i ? f : v); a_normal = kind(i ? n : n); a_normal = kind(i ? n : 1);",
+    "a_vector = kind(i ? p : v); a_vector = kind(i ? v : p); a_vector = kind(i ? p : n); a_vector = kind(i ? n : p); a_vector = kind(i ? v : n); a_vector = kind(i ? n : v);",
+    "a_closure = kind(i ? k : k); a_closure = kind(i ? k : 0); a_closure = kind(i ? 0 : k); floats = kind(i ? fs : gs); floats = kind(fs); floats = kind((fs));",
+    "a_float = kind(fs[0]); a_float = kind(c[0]); a_float = kind(p[i]); a_float = kind(m[0][1]); a_float = kind(c.r); a_float = kind(p.x); a_float = kind(q.a); an_int = kind(is[0]); an_int = kind(q.c[0]); a_color = kind(cs[0]); a_color = kind(q.b); a_color = kind((i ? q : r).b); a_normal = kind(ns[1]);",
+    "an_int = kind(i); an_int = kind(1); an_int = kind(0); an_int = kind((0)); a_float = kind(1.5); a_float = kind(u); a_string = kind(\"x\"); a_point = kind(P); a_point = kind((p)); a_normal = kind(N); a_normal = kind(Ng); a_vector = kind(I); a_closure = kind(Ci);",
+];
+
+/// Types that expressions do not have.
+static NOT_GIVEN: [&str; 32] = [
+    "a_float = kind(i / i);",
+    "an_int = kind(i + f);",
+    "a_float = kind(f + c);",
+    "a_vector = kind(p + p);",
+    "a_vector = kind(p - p);",
+    "a_vector = kind(n * n);",
+    "a_point = kind(p + v);",
+    "a_point = kind(v + p);",
+    "a_normal = kind(n - p);",
+    "a_point = kind(n + p);",
+    "a_normal = kind(v / n);",
+    "a_color = kind(c * k);",
+    "a_float = kind(f < f);",
+    "a_color = kind(c == c);",
+    "a_float = kind(f && f);",
+    "a_float = kind(!f);",
+    "a_vector = kind(-p);",
+    "a_vector = kind(+n);",
+    "an_int = kind(f++);",
+    "an_int = kind(i ? f : i);",
+    "a_point = kind(i ? p : v);",
+    "a_normal = kind(i ? n : p);",
+    "a_point = kind(i ? n : p);",
+    "a_normal = kind(i ? v : n);",
+    "a_vector = kind(i ? p : p);",
+    "a_float = kind(i ? c : f);",
+    "an_int = kind(i ? 0 : k);",
+    "an_int = kind(c[0]);",
+    "a_vector = kind(P);",
+    "a_vector = kind(N);",
+    "a_normal = kind(I);",
+    "a_closure = kind(0);",
+];
+
 #[test]
 fn operators_take_their_types(rt: HostRuntime) -> Result<(), Fail> {
     all_bodies_have(&rt, rt.alloc(), &TAKEN, Verdict::Typed)?;
     all_bodies_have(&rt, rt.alloc(), &REFUSED, Verdict::Untyped)
+}
+
+#[test]
+fn operators_give_their_types(rt: HostRuntime) -> Result<(), Fail> {
+    all_kinds_have(&rt, rt.alloc(), &GIVEN, Verdict::Typed)?;
+    all_kinds_have(&rt, rt.alloc(), &NOT_GIVEN, Verdict::Untyped)
 }

@@ -4,7 +4,7 @@ use super::{Verdict, all_have};
 use std::test::Fail;
 
 /// Shaders that are taken.
-static TAKEN: [&str; 33] = [
+static TAKEN: [&str; 36] = [
     "surface s() {}",
     "shader s(float a = 1, int b = 2, color c = 3, point d = 4, vector e = 5, normal f = 6, matrix g = matrix(1), string h = \"x\", closure color i = 0) {}",
     "shader s(float a[2] = {1, 2}, string b[3] = {\"x\"}, color c[1] = {0.5}) {}",
@@ -38,10 +38,13 @@ static TAKEN: [&str; 33] = [
     "shader s [[float a = 1, float a = 2]] () {}",
     "shader s [[vector a = point(1, 2, 3), float b = float(1)]] () {}",
     "shader s [[int s = 1]] () {}",
+    "shader s() { normal n = P; }",
+    "shader s() { vector a = N; point b = I; a = P; }",
+    "int h(int a) { return 1; } string h(float a) { return \"\"; } shader s() { string t = h(u); t = h(v); }",
 ];
 
 /// Shaders that are refused.
-static REFUSED: [&str; 83] = [
+static REFUSED: [&str; 94] = [
     "shader s(float a = 1, float a = 2) {}",
     "shader s(float a = 1, int a = 2) {}",
     "shader s(float P = 1) {}",
@@ -95,9 +98,17 @@ static REFUSED: [&str; 83] = [
     "displacement s() { v = 0; }",
     "volume s() { P = 0; }",
     "volume s() { N = 0; }",
+    "volume s() { Ng = 0; }",
+    "volume s() { I = 0; }",
+    "volume s() { u = 0; }",
+    "volume s() { v = 0; }",
     "shader s() { Ci = 0; }",
     "shader s() { P = 0; }",
     "shader s() { N = 0; }",
+    "shader s() { Ng = 0; }",
+    "shader s() { I = 0; }",
+    "shader s() { u = 0; }",
+    "shader s() { v = 0; }",
     "shader s() { Ci += emission(); }",
     "shader s [[float a = 1 + 1]] () {}",
     "shader s [[float a = u]] () {}",
@@ -125,6 +136,9 @@ static REFUSED: [&str; 83] = [
     "shader s(float a = 1, float b = 2 [[int c = \"x\"]]) {}",
     "shader s [[closure color c = 1]] () {}",
     "shader s [[closure color c = emission()]] () {}",
+    "shader s() { color c = P; }",
+    "shader s() { color c = N; }",
+    "shader s() { color c = I; }",
 ];
 
 #[test]
