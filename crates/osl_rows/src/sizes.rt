@@ -91,11 +91,11 @@ static ROWS: [Row; 18] = [
         64 + 6 + 1 + 7,
         0,
     ),
-    // Each of three numbers is promoted.
+    // A constructor takes numbers as they are.
     (
         "shader s() { vector v = vector(1, 2, 3); }",
-        64 + 36,
-        64 + 8 + 7 + 12,
+        64 + 24,
+        64 + 8 + 7 + 9,
         0,
     ),
     // A call has 8 for each parameter, and the body of the function each time.
