@@ -18,5 +18,3 @@ mod statements;
 
 pub use shader::check;
 
-#[cfg(test)]
-mod tests;

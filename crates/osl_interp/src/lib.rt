@@ -17,8 +17,6 @@ pub mod outputs;
 pub mod run;
 pub mod start;
 pub mod steps;
-#[cfg(test)]
-mod tests;
 
 pub use inputs::inputs_fit;
 pub use layer_run::{Given, LayerRun, LayerStop, OutRef};

@@ -103,5 +103,3 @@ pub fn run_plain<S: Store, K: Sink>(
     }
 }
 
-#[cfg(test)]
-mod tests;

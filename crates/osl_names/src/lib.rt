@@ -14,5 +14,3 @@ pub use fields::Fields;
 pub use scope::Scope;
 pub use structures::Structures;
 
-#[cfg(test)]
-mod tests;

@@ -1,8 +1,12 @@
 //! Tests that cross crates: rows of sources, with their tokens, the shapes of their trees, whether they have a typing,
-//! and their sizes.
-//! What is expected was written by hand, from the language's rules.
+//! and their sizes; names through blocks; and whole jobs, with their status and what they print.
+//! What is expected was written by hand, from the language's rules and the formats.
 #![tactic(auto)]
 
+#[cfg(test)]
+mod jobs;
+#[cfg(test)]
+mod names;
 #[cfg(test)]
 mod shape;
 #[cfg(test)]

@@ -179,7 +179,7 @@ fn sizes_stop_above_their_limits(rt: HostRuntime) -> Result<(), Fail> {
 }
 
 /// A source, the bytes of its longest string outside metadata, and of its longest name.
-static LONGEST: [(&str, u32, u32); 4] = [
+static LONGEST: [(&str, u32, u32); 5] = [
     ("shader s() { }", 0, 1),
     ("shader shade(string text = \"four\") { }", 4, 5),
     (
@@ -191,6 +191,12 @@ static LONGEST: [(&str, u32, u32); 4] = [
         "void unused() { string t = \"12345\"; } shader s() { }",
         5,
         6,
+    ),
+    // A name of 300 bytes: the count stops one above the limit.
+    (
+        "shader s() { int nnnnnnnnnnnnnnnnnnnnnnnnnnnnnnnnnnnnnnnnnnnnnnnnnnnnnnnnnnnnnnnnnnnnnnnnnnnnnnnnnnnnnnnnnnnnnnnnnnnnnnnnnnnnnnnnnnnnnnnnnnnnnnnnnnnnnnnnnnnnnnnnnnnnnnnnnnnnnnnnnnnnnnnnnnnnnnnnnnnnnnnnnnnnnnnnnnnnnnnnnnnnnnnnnnnnnnnnnnnnnnnnnnnnnnnnnnnnnnnnnnnnnnnnnnnnnnnnnnnnnnnnnnnnnnnnnnnnnnnnnnnnnnnnnnnnnnnnnnnn; }",
+        0,
+        256,
     ),
 ];
 

@@ -24,5 +24,3 @@ pub use sizes::Sizes;
 pub use stmt::{Declared, TypedForStart, TypedInit, TypedStmt};
 pub use typed::Typed;
 
-#[cfg(test)]
-mod tests;

@@ -21,8 +21,6 @@ pub mod op;
 pub mod raw;
 pub mod shader;
 pub mod symbol;
-#[cfg(test)]
-mod tests;
 mod valid;
 
 pub use error::{CodeError, FlawKind};

@@ -22,8 +22,6 @@ mod reader;
 mod strings;
 mod symbol_line;
 mod table;
-#[cfg(test)]
-mod tests;
 mod types;
 mod unread;
 mod values;

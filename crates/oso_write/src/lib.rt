@@ -5,8 +5,6 @@
 #![tactic(auto)]
 
 mod line;
-#[cfg(test)]
-mod tests;
 mod word;
 mod writer;
 

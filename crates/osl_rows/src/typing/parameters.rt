@@ -44,7 +44,7 @@ static TAKEN: [&str; 36] = [
 ];
 
 /// Shaders that are refused.
-static REFUSED: [&str; 94] = [
+static REFUSED: [&str; 95] = [
     "shader s(float a = 1, float a = 2) {}",
     "shader s(float a = 1, int a = 2) {}",
     "shader s(float P = 1) {}",
@@ -65,6 +65,7 @@ static REFUSED: [&str; 94] = [
     "shader s(int a = 1.5) {}",
     "shader s(color a = P) {}",
     "shader s(matrix a = 1) {}",
+    "shader s(string a = 1) {}",
     "shader s(closure color a = 1) {}",
     "shader s(float a[2] = {1, 2, 3}) {}",
     "shader s(float a[2] = 1) {}",

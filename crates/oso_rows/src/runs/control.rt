@@ -1,11 +1,11 @@
 //! Control ops, sections and defaults, and connected parameters.
 
-use super::layers::{Line, Part, int, ops, shader, symbol};
-use super::runs::{Layer, ended, output};
-use crate::{Given, OutRef};
+use super::{Layer, ended, output};
+use crate::code::{Line, Part, int, ops, sections, shader, symbol};
 use bumpalo::Bump;
+use osl_interp::{Given, OutRef};
 use osl_value::{Base, LayerValues, Memory, OpName, Ty, Value};
-use oso_code::{Class, Section, Symbol};
+use oso_code::{Class, Symbol};
 use std::alloc::Global;
 use std::test::Fail;
 
@@ -447,15 +447,6 @@ fn symbols(alloc: Global) -> Result<Vec<Symbol>, Memory> {
             None => None,
         };
         all.push(symbol(alloc, *class, name, Ty::only(Base::Int), start)?)?;
-    }
-    Ok(all)
-}
-
-fn sections(alloc: Global, parts: &[Part]) -> Result<Vec<Section>, Memory> {
-    let mut all = Vec::new(alloc);
-    for part in parts {
-        let (param, start, end) = *part;
-        all.push(Section { param, start, end })?;
     }
     Ok(all)
 }

@@ -1,9 +1,9 @@
 //! Each operation on constants.
 
-use super::layers::{body, op, shader, symbol, text, zero};
-use super::runs::{Layer, ended, output};
-use crate::{Given, OutRef};
+use super::{Layer, ended, output};
+use crate::code::{body, op, shader, symbol, text, zero};
 use bumpalo::Bump;
+use osl_interp::{Given, OutRef};
 use osl_value::{Base, LayerValues, Memory, OpName, Text, Ty, Value};
 use oso_code::{Class, Op, Shader, Symbol};
 use std::alloc::Global;

@@ -1,7 +1,5 @@
 //! From tables to shaders.
 
-ghost use Rattle.std.specs.Prelude.{◌≡◌, true};
-
 use osl_value::{Base, Memory, OpName, Text, Ty, Value};
 use oso_code::{Class, ListOf, Op, Raw, Section, Shader, ShaderKind, Symbol, validate};
 use std::alloc::Global;
@@ -74,6 +72,25 @@ pub fn symbol(
     })
 }
 
+/// A symbol with one number.
+pub fn numbered(
+    alloc: Global,
+    class: Class,
+    base: Base,
+    name: &str,
+    number: i64,
+) -> Result<Symbol, Memory> {
+    let ty = Ty::only(base);
+    let nums = vec![in alloc; number]?;
+    symbol(
+        alloc,
+        class,
+        name,
+        ty,
+        Value::new(ty, nums, Vec::new(alloc)),
+    )
+}
+
 pub fn op(alloc: Global, name: OpName, args: &[u32], jumps: &[u32]) -> Result<Op, Memory> {
     Ok(Op {
         name,
@@ -91,10 +108,19 @@ pub fn ops(alloc: Global, lines: &[Line]) -> Result<Vec<Op>, Memory> {
     Ok(all)
 }
 
+pub fn sections(alloc: Global, parts: &[Part]) -> Result<Vec<Section>, Memory> {
+    let mut all = Vec::new(alloc);
+    for part in parts {
+        let (param, start, end) = *part;
+        all.push(Section { param, start, end })?;
+    }
+    Ok(all)
+}
+
 /// The body alone, as one section.
 pub fn body(alloc: Global, ops: &[Op]) -> Result<Vec<Section>, Memory> {
     let mut all = Vec::new(alloc);
-    if ops.len() > 100 {
+    if ops.len() > 100_000 {
         return Err(Memory);
     }
     all.push(Section {
@@ -105,7 +131,25 @@ pub fn body(alloc: Global, ops: &[Op]) -> Result<Vec<Section>, Memory> {
     Ok(all)
 }
 
-/// The shader of these symbols, sections and ops; no memory where they are not valid.
+/// The code of a shader of this name, with these symbols, sections and ops.
+pub fn code(
+    alloc: Global,
+    name: &[u8],
+    symbols: Vec<Symbol>,
+    sections: Vec<Section>,
+    ops: Vec<Op>,
+) -> Result<Raw, Memory> {
+    Ok(Raw {
+        kind: ShaderKind::Shader,
+        name: text(alloc, name)?,
+        metas: ListOf::new(Vec::new(alloc)),
+        symbols: ListOf::new(symbols),
+        sections: ListOf::new(sections),
+        ops: ListOf::new(ops),
+    })
+}
+
+/// The surface of these symbols, sections and ops; no memory where they are not valid.
 pub fn shader(
     alloc: Global,
     symbols: Vec<Symbol>,
@@ -115,14 +159,8 @@ pub fn shader(
     if symbols.len() > 100 || ops.len() > 100 {
         return Err(Memory);
     }
-    let raw = Raw {
-        kind: ShaderKind::Surface,
-        name: text(alloc, b"layer")?,
-        metas: ListOf::new(Vec::new(alloc)),
-        symbols: ListOf::new(symbols),
-        sections: ListOf::new(sections),
-        ops: ListOf::new(ops),
-    };
+    let mut raw = code(alloc, b"layer", symbols, sections, ops)?;
+    raw.kind = ShaderKind::Surface;
     match validate(alloc, raw) {
         Ok(shader) => Ok(shader),
         Err(_refused) => Err(Memory),

@@ -1,11 +1,18 @@
-//! Runs of layers to their ends.
+//! Layers in tables, run to their ends: what they ask for, and what they give. Numbers were worked out by hand or by
+//! exact arithmetic.
 
 ghost use Rattle.std.specs.Prelude.{◌≡◌, ◌<◌, true, IfOk, IfSome, OnOk};
 ghost use Rattle.oso_code.specs.Ops.{type_at};
 ghost use Rattle.osl_interp.specs.Layers.{IsReady, IsAsking, IsDone, IsOutput, HasType, input_of, run_of};
 
-use crate::{Given, LayerRun, LayerStop, OutRef, Steps, inputs_fit};
+mod closures;
+mod control;
+mod globals;
+mod inputs;
+mod operations;
+
 use bumpalo::Bump;
+use osl_interp::{Given, LayerRun, LayerStop, OutRef, Steps, inputs_fit};
 use osl_value::{Base, Fx, LayerValues, Memory, Point, Ty};
 use oso_code::{Class, Shader};
 use std::alloc::Global;

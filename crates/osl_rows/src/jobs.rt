@@ -1,4 +1,6 @@
-use crate::run_plain;
+//! Jobs in tables, over files in memory: the status, and what is printed.
+
+use osl_job::run_plain;
 use osl_store::{MemorySink, MemoryStore};
 use std::alloc::{AllocError, Global};
 use std::test::Fail;

@@ -1,6 +1,10 @@
-use crate::{OsoError, OsoKind, read};
+//! The text of code, read and written.
+
+use crate::code::{code, numbered, ops, sections};
 use osl_decimal::write_int;
-use osl_value::OpName;
+use osl_value::{Base, OpName};
+use oso_code::{Class, validate};
+use oso_read::{OsoError, OsoKind, read};
 use oso_write::write;
 use std::alloc::Global;
 use std::test::Fail;
@@ -537,6 +541,36 @@ static REFUSED: [(&[u8], OsoKind, u32); 91] = [
         5,
     ),
 ];
+
+/// An output and a constant, and an op in a range.
+const CHOICE: &[u8] =
+    b"OpenShadingLanguage 1.00\nshader one\noparam float r -0.25\nconst int $1 1\ncode ___main___\nif $1 1 2\nassign r $1\nend\n";
+
+#[test]
+fn code_is_written(rt: HostRuntime) -> Result<(), Fail> {
+    let alloc = rt.alloc();
+    let symbols = vec![in alloc;
+        numbered(alloc, Class::Oparam, Base::Float, "r", -250_000_000)?,
+        numbered(alloc, Class::Const, Base::Int, "$1", 1)?,
+    ]?;
+    let ops = ops(
+        alloc,
+        &[(OpName::If, &[1], &[1, 2]), (OpName::Assign, &[0, 1], &[])],
+    )?;
+    let raw = code(
+        alloc,
+        b"one",
+        symbols,
+        sections(alloc, &[(None, 0, 2)])?,
+        ops,
+    )?;
+    assert!(rt; raw.symbols.len() < 10 && raw.ops.len() < 10);
+    match validate(alloc, raw) {
+        Ok(shader) => assert_eq!(rt; write(alloc, &shader)?.as_slice(), CHOICE),
+        Err(_refused) => assert!(rt; false),
+    }
+    Ok(())
+}
 
 #[test]
 fn faults_have_their_kind_and_line(rt: HostRuntime) {

@@ -1,8 +1,9 @@
 //! Metadata: what a datum is, and where it stands.
 
-use super::{INPUT, LONG, LONGER, Named, body, code_of, first_flaw_of, named, text};
-use crate::{Class, FlawKind, ListOf, Meta, Raw};
+use super::{INPUT, LONG, LONGER, Named, flaw_of, named, without_ops};
+use crate::code::text;
 use osl_value::{Base, Memory, Ty};
+use oso_code::{Class, FlawKind, ListOf, Meta, Raw};
 use std::alloc::Global;
 use std::test::Fail;
 
@@ -93,7 +94,7 @@ fn raw_with(alloc: Global, symbol: &Named, rows: &[Datum]) -> Result<Raw, Memory
     let mut second = named(alloc, symbol)?;
     second.metas = data(alloc, rows)?;
     let symbols = vec![in alloc; named(alloc, &INPUT)?, second]?;
-    code_of(alloc, b"one", symbols, body(alloc, 0)?, Vec::new(alloc))
+    without_ops(alloc, b"one", symbols)
 }
 
 #[test]
@@ -104,13 +105,13 @@ fn data_fit_their_types(rt: HostRuntime) -> Result<(), Fail> {
         let flaw = if row.5 { None } else { Some(FlawKind::Symbol) };
         // Of a parameter.
         let raw = raw_with(alloc, &output, &[LOCKED, *row])?;
-        let (wrong, at) = first_flaw_of(alloc, raw)?;
+        let (wrong, at) = flaw_of(alloc, raw)?;
         assert!(rt; wrong == flaw, "row {k}");
         assert_eq!(rt; at, if row.5 { 0 } else { 1 }, "row {k}");
         // Of the shader, which has the fault at symbol 0.
         let mut raw = raw_with(alloc, &output, &[])?;
         raw.metas = data(alloc, &[LOCKED, *row])?;
-        let (wrong, at) = first_flaw_of(alloc, raw)?;
+        let (wrong, at) = flaw_of(alloc, raw)?;
         assert!(rt; wrong == flaw, "row {k}");
         assert_eq!(rt; at, 0, "row {k}");
     }
@@ -131,9 +132,9 @@ static SYMBOLS: [(Named, bool); 6] = [
 fn data_stand_on_parameters(rt: HostRuntime) -> Result<(), Fail> {
     let alloc = rt.alloc();
     for (k, (symbol, may)) in SYMBOLS.iter().enumerate() {
-        let (wrong, _at) = first_flaw_of(alloc, raw_with(alloc, symbol, &[])?)?;
+        let (wrong, _at) = flaw_of(alloc, raw_with(alloc, symbol, &[])?)?;
         assert!(rt; wrong.is_none(), "row {k}");
-        let (wrong, at) = first_flaw_of(alloc, raw_with(alloc, symbol, &[LOCKED])?)?;
+        let (wrong, at) = flaw_of(alloc, raw_with(alloc, symbol, &[LOCKED])?)?;
         let flaw = if *may { None } else { Some(FlawKind::Symbol) };
         assert!(rt; wrong == flaw, "row {k}");
         assert_eq!(rt; at, if *may { 0 } else { 1 }, "row {k}");
@@ -153,7 +154,7 @@ fn a_string_in_metadata_may_be_long(rt: HostRuntime) -> Result<(), Fail> {
     let mut raw = raw_with(alloc, &INPUT, &[])?;
     raw.symbols = ListOf::new(vec![in alloc; named(alloc, &INPUT)?]?);
     raw.metas = ListOf::new(vec![in alloc; meta]?);
-    let (wrong, _at) = first_flaw_of(alloc, raw)?;
+    let (wrong, _at) = flaw_of(alloc, raw)?;
     assert!(rt; wrong.is_none());
     Ok(())
 }
@@ -165,12 +166,12 @@ fn symbols_come_before_ops(rt: HostRuntime) -> Result<(), Fail> {
     let output = (Class::Oparam, Base::Float, 0, "r", Some(0));
     let mut raw = raw_with(alloc, &output, &[])?;
     raw.sections = ListOf::new(Vec::new(alloc));
-    let (wrong, at) = first_flaw_of(alloc, raw)?;
+    let (wrong, at) = flaw_of(alloc, raw)?;
     assert!(rt; wrong == Some(FlawKind::Op));
     assert_eq!(rt; at, 0);
     let mut raw = raw_with(alloc, &output, &[WRONG])?;
     raw.sections = ListOf::new(Vec::new(alloc));
-    let (wrong, at) = first_flaw_of(alloc, raw)?;
+    let (wrong, at) = flaw_of(alloc, raw)?;
     assert!(rt; wrong == Some(FlawKind::Symbol));
     assert_eq!(rt; at, 1);
     Ok(())

@@ -1,9 +1,9 @@
 //! The globals of the point that a layer is run at.
 
-use super::layers::{body, ops, shader, symbol, zero};
-use super::runs::{Layer, ended, output};
-use crate::{Given, OutRef};
+use super::{Layer, ended, output};
+use crate::code::{body, ops, shader, symbol, zero};
 use bumpalo::Bump;
+use osl_interp::{Given, OutRef};
 use osl_value::{Base, LayerValues, Memory, OpName, Ty, Value};
 use oso_code::{Class, Shader};
 use std::alloc::Global;

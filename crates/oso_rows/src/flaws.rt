@@ -1,20 +1,16 @@
 //! Code in tables, and its first flaw. What is expected follows from the rules of oso text (docs/CODE.md).
 
-ghost use Rattle.std.specs.Prelude.{◌≡◌, ◌<◌, ◌^◌, length, vec_len, IfOk};
-
 mod classes;
 mod metadata;
 mod ranges;
 
-use crate::{Class, CodeError, FlawKind, ListOf, Op, Raw, Section, ShaderKind, Symbol, validate};
-use osl_value::{Base, Memory, OpName, Text, Ty, Value};
+use crate::code::{Line, Part, body, code, numbered, op, ops, sections, symbol, text};
+use osl_value::{Base, Memory, OpName, Ty, Value};
+use oso_code::{Class, CodeError, FlawKind, ListOf, Op, Raw, Symbol, validate};
 use std::alloc::Global;
 use std::test::Fail;
 
-/// An op: its name, its arguments and its jumps.
-type Line = (OpName, &'static [u32], &'static [u32]);
-
-/// Ops over the symbols of `raw_of`, and their first flaw.
+/// Ops over the symbols of `code_of`, and their first flaw.
 struct Row {
     lines: &'static [Line],
     wrong: Option<FlawKind>,
@@ -239,9 +235,6 @@ static SYMBOL_ROWS: [SymbolRow; 22] = [
     },
 ];
 
-/// A section: its parameter, if it is not the body's, and where it begins and ends.
-type Part = (Option<u32>, u32, u32);
-
 /// Sections over four ops, and the place of their first flaw, where they have one.
 struct SectionRow {
     sections: &'static [Part],
@@ -316,67 +309,24 @@ static SECTION_ROWS: [SectionRow; 14] = [
     },
 ];
 
-fn text(alloc: Global, bytes: &[u8]) -> Result<Text, Memory> {
-    match Text::new(bytes.to_vec(alloc)?) {
-        Some(text) => Ok(text),
-        None => Err(Memory),
-    }
-}
-
-fn symbol(
-    alloc: Global,
-    class: Class,
-    base: Base,
-    name: &[u8],
-    number: i64,
-) -> Result<Symbol, Memory> {
-    let ty = Ty::only(base);
-    let nums = vec![in alloc; number]?;
-    let texts = Vec::new(alloc);
-    Ok(Symbol {
-        class,
-        ty,
-        name: text(alloc, name)?,
-        value: Value::new(ty, nums, texts),
-        metas: ListOf::new(Vec::new(alloc)),
-    })
-}
-
 /// A shader with an input 0, an output 1, and the constants 0 and 1 as 2 and 3.
-fn raw_of(alloc: Global, ops: Vec<Op>) -> Result<Raw, Memory>
-    requires { vec_len ops < 2 ^ 32 }
-    ensures ops { IfOk result (λ raw. raw.ops ≡ ops.items) }
-    ensures symbols { IfOk result (λ raw. length raw.symbols ≡ 4) }
-{
-    let end = ops.len() as u32;
+fn code_of(alloc: Global, ops: Vec<Op>) -> Result<Raw, Memory> {
     let symbols = vec![in alloc;
-        symbol(alloc, Class::Param, Base::Float, b"a", 0)?,
-        symbol(alloc, Class::Oparam, Base::Float, b"r", 0)?,
-        symbol(alloc, Class::Const, Base::Int, b"$0", 0)?,
-        symbol(alloc, Class::Const, Base::Int, b"$1", 1)?,
+        numbered(alloc, Class::Param, Base::Float, "a", 0)?,
+        numbered(alloc, Class::Oparam, Base::Float, "r", 0)?,
+        numbered(alloc, Class::Const, Base::Int, "$0", 0)?,
+        numbered(alloc, Class::Const, Base::Int, "$1", 1)?,
     ]?;
-    let sections = vec![in alloc;
-        Section {
-            param: None,
-            start: 0,
-            end
-        },
-    ]?;
-    Ok(Raw {
-        kind: ShaderKind::Shader,
-        name: text(alloc, b"one")?,
-        metas: ListOf::new(Vec::new(alloc)),
-        symbols: ListOf::new(symbols),
-        sections: ListOf::new(sections),
-        ops: ListOf::new(ops),
-    })
+    let body = body(alloc, &ops)?;
+    code(alloc, b"one", symbols, body, ops)
 }
 
 /// The first flaw, with 0 where there is none.
-fn flaw_of(alloc: Global, ops: Vec<Op>) -> Result<(Option<FlawKind>, u32), Memory>
-    requires { vec_len ops < 2 ^ 32 }
-{
-    match validate(alloc, raw_of(alloc, ops)?) {
+fn flaw_of(alloc: Global, raw: Raw) -> Result<(Option<FlawKind>, u32), Memory> {
+    if raw.symbols.len() > 100_000 || raw.ops.len() > 100_000 {
+        return Err(Memory);
+    }
+    match validate(alloc, raw) {
         Ok(_shader) => Ok((None, 0)),
         Err((_raw, error)) => match error {
             CodeError::Flaw { kind, at } => Ok((Some(kind), at)),
@@ -385,25 +335,11 @@ fn flaw_of(alloc: Global, ops: Vec<Op>) -> Result<(Option<FlawKind>, u32), Memor
     }
 }
 
-fn op(alloc: Global, line: &Line) -> Result<Op, Memory> {
-    let (name, args, jumps) = *line;
-    Ok(Op {
-        name,
-        args: ListOf::new(args.to_vec(alloc)?),
-        jumps: ListOf::new(jumps.to_vec(alloc)?),
-    })
-}
-
 #[test]
 fn flaws_have_their_places(rt: HostRuntime) -> Result<(), Fail> {
     let alloc = rt.alloc();
     for row in &ROWS {
-        let mut ops = Vec::new(alloc);
-        for line in row.lines {
-            ops.push(op(alloc, line)?)?;
-        }
-        assert!(rt; ops.len() < 10);
-        let (wrong, at) = flaw_of(alloc, ops)?;
+        let (wrong, at) = flaw_of(alloc, code_of(alloc, ops(alloc, row.lines)?)?)?;
         assert!(rt; wrong == row.wrong);
         assert_eq!(rt; at, row.at);
     }
@@ -414,12 +350,7 @@ fn flaws_have_their_places(rt: HostRuntime) -> Result<(), Fail> {
 fn nested(alloc: Global, count: u32) -> Result<Vec<Op>, Memory> {
     let mut ops = Vec::new(alloc);
     for _i in 0..count {
-        let jumps = vec![in alloc; count]?;
-        ops.push(Op {
-            name: OpName::FunctionCall,
-            args: ListOf::new(Vec::new(alloc)),
-            jumps: ListOf::new(jumps),
-        })?;
+        ops.push(op(alloc, OpName::FunctionCall, &[], &[count])?)?;
     }
     Ok(ops)
 }
@@ -427,13 +358,9 @@ fn nested(alloc: Global, count: u32) -> Result<Vec<Op>, Memory> {
 #[test]
 fn ranges_nest_so_deep(rt: HostRuntime) -> Result<(), Fail> {
     let alloc = rt.alloc();
-    let ops = nested(alloc, 4608)?;
-    assert!(rt; ops.len() < 10000);
-    let (wrong, _at) = flaw_of(alloc, ops)?;
+    let (wrong, _at) = flaw_of(alloc, code_of(alloc, nested(alloc, 4608)?)?)?;
     assert!(rt; wrong.is_none());
-    let ops = nested(alloc, 4609)?;
-    assert!(rt; ops.len() < 10000);
-    let (wrong, at) = flaw_of(alloc, ops)?;
+    let (wrong, at) = flaw_of(alloc, code_of(alloc, nested(alloc, 4609)?)?)?;
     assert!(rt; wrong == Some(FlawKind::Limit));
     assert_eq!(rt; at, 0);
     Ok(())
@@ -442,9 +369,7 @@ fn ranges_nest_so_deep(rt: HostRuntime) -> Result<(), Fail> {
 #[test]
 fn a_copy_is_valid_too(rt: HostRuntime) -> Result<(), Fail> {
     let alloc = rt.alloc();
-    let ops = Vec::new(alloc);
-    let raw = raw_of(alloc, ops)?;
-    match validate(alloc, raw) {
+    match validate(alloc, code_of(alloc, Vec::new(alloc))?) {
         Ok(shader) => {
             let copy = shader.copy(alloc)?;
             assert_eq!(rt; copy.raw().symbols.len(), 4);
@@ -466,57 +391,12 @@ fn named(alloc: Global, row: &Named) -> Result<Symbol, Memory> {
         }
         None => None,
     };
-    Ok(Symbol {
-        class,
-        ty,
-        name: text(alloc, name.as_bytes())?,
-        value,
-        metas: ListOf::new(Vec::new(alloc)),
-    })
+    symbol(alloc, class, name, ty, value)
 }
 
-/// The code of a shader of this name, with these symbols, sections and ops.
-fn code_of(
-    alloc: Global,
-    name: &[u8],
-    symbols: Vec<Symbol>,
-    sections: Vec<Section>,
-    ops: Vec<Op>,
-) -> Result<Raw, Memory> {
-    Ok(Raw {
-        kind: ShaderKind::Shader,
-        name: text(alloc, name)?,
-        metas: ListOf::new(Vec::new(alloc)),
-        symbols: ListOf::new(symbols),
-        sections: ListOf::new(sections),
-        ops: ListOf::new(ops),
-    })
-}
-
-/// The body, up to a place.
-fn body(alloc: Global, end: u32) -> Result<Vec<Section>, Memory> {
-    let sections = vec![in alloc;
-        Section {
-            param: None,
-            start: 0,
-            end
-        },
-    ]?;
-    Ok(sections)
-}
-
-/// The first flaw, with 0 where there is none.
-fn first_flaw_of(alloc: Global, raw: Raw) -> Result<(Option<FlawKind>, u32), Memory> {
-    if raw.symbols.len() > 100_000 || raw.ops.len() > 100_000 {
-        return Err(Memory);
-    }
-    match validate(alloc, raw) {
-        Ok(_shader) => Ok((None, 0)),
-        Err((_raw, error)) => match error {
-            CodeError::Flaw { kind, at } => Ok((Some(kind), at)),
-            CodeError::Memory => Err(Memory),
-        },
-    }
+/// Code of these symbols without ops.
+fn without_ops(alloc: Global, name: &[u8], symbols: Vec<Symbol>) -> Result<Raw, Memory> {
+    code(alloc, name, symbols, body(alloc, &[])?, Vec::new(alloc))
 }
 
 fn symbols_flaw(alloc: Global, row: &SymbolRow) -> Result<(Option<FlawKind>, u32), Memory> {
@@ -524,8 +404,7 @@ fn symbols_flaw(alloc: Global, row: &SymbolRow) -> Result<(Option<FlawKind>, u32
     for symbol in row.symbols {
         symbols.push(named(alloc, symbol)?)?;
     }
-    let raw = code_of(alloc, b"one", symbols, body(alloc, 0)?, Vec::new(alloc))?;
-    first_flaw_of(alloc, raw)
+    flaw_of(alloc, without_ops(alloc, b"one", symbols)?)
 }
 
 #[test]
@@ -542,14 +421,7 @@ fn flaws_of_symbols_have_their_places(rt: HostRuntime) -> Result<(), Fail> {
 #[test]
 fn a_shader_has_a_name(rt: HostRuntime) -> Result<(), Fail> {
     let alloc = rt.alloc();
-    let raw = code_of(
-        alloc,
-        b"1",
-        Vec::new(alloc),
-        body(alloc, 0)?,
-        Vec::new(alloc),
-    )?;
-    let (wrong, at) = first_flaw_of(alloc, raw)?;
+    let (wrong, at) = flaw_of(alloc, without_ops(alloc, b"1", Vec::new(alloc))?)?;
     assert!(rt; wrong == Some(FlawKind::Symbol));
     assert_eq!(rt; at, 0);
     Ok(())
@@ -559,11 +431,7 @@ fn a_shader_has_a_name(rt: HostRuntime) -> Result<(), Fail> {
 fn returns(alloc: Global, count: u32) -> Result<Vec<Op>, Memory> {
     let mut ops = Vec::new(alloc);
     for _i in 0..count {
-        ops.push(Op {
-            name: OpName::Return,
-            args: ListOf::new(Vec::new(alloc)),
-            jumps: ListOf::new(Vec::new(alloc)),
-        })?;
+        ops.push(op(alloc, OpName::Return, &[], &[])?)?;
     }
     Ok(ops)
 }
@@ -571,18 +439,16 @@ fn returns(alloc: Global, count: u32) -> Result<Vec<Op>, Memory> {
 /// The first flaw of sections, over four ops.
 fn sections_flaw(alloc: Global, row: &SectionRow) -> Result<(Option<FlawKind>, u32), Memory> {
     let symbols = vec![in alloc;
-        symbol(alloc, Class::Param, Base::Float, b"a", 0)?,
-        symbol(alloc, Class::Param, Base::Float, b"b", 0)?,
-        symbol(alloc, Class::Oparam, Base::Float, b"r", 1)?,
-        symbol(alloc, Class::Const, Base::Int, b"$0", 0)?,
+        numbered(alloc, Class::Param, Base::Float, "a", 0)?,
+        numbered(alloc, Class::Param, Base::Float, "b", 0)?,
+        numbered(alloc, Class::Oparam, Base::Float, "r", 1)?,
+        numbered(alloc, Class::Const, Base::Int, "$0", 0)?,
     ]?;
-    let mut sections = Vec::new(alloc);
-    for part in row.sections {
-        let (param, start, end) = *part;
-        sections.push(Section { param, start, end })?;
-    }
-    let raw = code_of(alloc, b"one", symbols, sections, returns(alloc, 4)?)?;
-    first_flaw_of(alloc, raw)
+    let sections = sections(alloc, row.sections)?;
+    flaw_of(
+        alloc,
+        code(alloc, b"one", symbols, sections, returns(alloc, 4)?)?,
+    )
 }
 
 #[test]
@@ -637,14 +503,9 @@ fn limits_are_passed_by_one(rt: HostRuntime) -> Result<(), Fail> {
     let alloc = rt.alloc();
     for &(count, ops, passes) in &LIMIT_ROWS {
         let symbols = arrays(alloc, count, 1024)?;
-        let raw = code_of(
-            alloc,
-            b"one",
-            symbols,
-            body(alloc, ops)?,
-            returns(alloc, ops)?,
-        )?;
-        let (wrong, at) = first_flaw_of(alloc, raw)?;
+        let returns = returns(alloc, ops)?;
+        let body = body(alloc, &returns)?;
+        let (wrong, at) = flaw_of(alloc, code(alloc, b"one", symbols, body, returns)?)?;
         let limit = if passes { Some(FlawKind::Limit) } else { None };
         assert!(rt; wrong == limit, "{count} arrays, {ops} ops");
         assert_eq!(rt; at, 0);

@@ -1,4 +1,6 @@
-use crate::{Fields, Scope, Structures};
+//! Names through blocks, structures and their fields.
+
+use osl_names::{Fields, Scope, Structures};
 use osl_overload::Kind;
 use osl_tree::tree::ShaderKind;
 use osl_typed::Root;

@@ -1,11 +1,12 @@
 //! Where ranges end, and where `break` and `continue` stand.
 
-use super::{Line, flaw_of, nested, op};
-use crate::FlawKind;
+use super::{code_of, flaw_of, nested};
+use crate::code::{Line, op, ops};
 use osl_value::OpName;
+use oso_code::FlawKind;
 use std::test::Fail;
 
-/// Ops over the symbols of `raw_of`, of which 2 and 3 are ints, and the first op of which a jump, or which as a
+/// Ops over the symbols of `code_of`, of which 2 and 3 are ints, and the first op of which a jump, or which as a
 /// `break` or `continue`, is at fault.
 struct RangeRow {
     name: &'static str,
@@ -281,12 +282,7 @@ static ROWS: [RangeRow; 36] = [
 fn ranges_have_their_places(rt: HostRuntime) -> Result<(), Fail> {
     let alloc = rt.alloc();
     for row in &ROWS {
-        let mut ops = Vec::new(alloc);
-        for line in row.ops {
-            ops.push(op(alloc, line)?)?;
-        }
-        assert!(rt; ops.len() < 10);
-        let (wrong, at) = flaw_of(alloc, ops)?;
+        let (wrong, at) = flaw_of(alloc, code_of(alloc, ops(alloc, row.ops)?)?)?;
         match row.at {
             Some(place) => {
                 assert!(rt; wrong == Some(FlawKind::Jump), "{}", row.name);
@@ -302,9 +298,8 @@ fn ranges_have_their_places(rt: HostRuntime) -> Result<(), Fail> {
 fn jumps_come_before_limits(rt: HostRuntime) -> Result<(), Fail> {
     let alloc = rt.alloc();
     let mut ops = nested(alloc, 4609)?;
-    ops.push(op(alloc, &BREAK)?)?;
-    assert!(rt; ops.len() < 10000);
-    let (wrong, at) = flaw_of(alloc, ops)?;
+    ops.push(op(alloc, OpName::Break, &[], &[])?)?;
+    let (wrong, at) = flaw_of(alloc, code_of(alloc, ops)?)?;
     assert!(rt; wrong == Some(FlawKind::Jump));
     assert_eq!(rt; at, 4609);
     Ok(())

@@ -1,7 +1,7 @@
 //! Which instance values and connections fit a shader.
 
-use super::layers::{Sample, body, ops, shader, symbol, value, zero};
-use crate::inputs_fit;
+use crate::code::{Sample, body, ops, shader, symbol, value, zero};
+use osl_interp::inputs_fit;
 use osl_value::{Base, LayerValues, Memory, OpName, Ty};
 use oso_code::{Class, Shader};
 use std::alloc::Global;

@@ -1,8 +1,9 @@
 //! Which symbols ops may write and read: globals by the shader's kind, and parameters by the section.
 
-use super::{Line, Named, Part, body, code_of, first_flaw_of, named, op};
-use crate::{Class, FlawKind, ListOf, Section, ShaderKind};
+use super::{Named, flaw_of, named};
+use crate::code::{Line, Part, body, code, op, ops, sections};
 use osl_value::{Base, Memory, OpName};
+use oso_code::{Class, FlawKind, Raw, ShaderKind, Symbol};
 use std::alloc::Global;
 use std::test::Fail;
 
@@ -57,29 +58,24 @@ static KIND_ROWS: [(ShaderKind, [bool; 7]); 4] = [
     ),
 ];
 
-/// The first flaw of a shader of the kind that reads each global, and then writes the one of a number.
-fn written_flaw(
-    alloc: Global,
-    kind: ShaderKind,
-    number: u32,
-) -> Result<(Option<FlawKind>, u32), Memory> {
-    let mut symbols = Vec::new(alloc);
-    for global in &GLOBALS {
-        symbols.push(named(alloc, global)?)?;
+fn all_named(alloc: Global, rows: &[Named]) -> Result<Vec<Symbol>, Memory> {
+    let mut all = Vec::new(alloc);
+    for row in rows {
+        all.push(named(alloc, row)?)?;
     }
+    Ok(all)
+}
+
+/// The code of a shader that reads each global, and then writes the one of a number.
+fn written(alloc: Global, number: u32) -> Result<Raw, Memory> {
+    let mut symbols = all_named(alloc, &GLOBALS)?;
     for local in &LOCALS {
         symbols.push(named(alloc, local)?)?;
     }
-    let mut ops = Vec::new(alloc);
-    for line in &READS {
-        ops.push(op(alloc, line)?)?;
-    }
-    let mut write = op(alloc, &(OpName::Assign, &[], &[]))?;
-    write.args = ListOf::new(vec![in alloc; number, number]?);
-    ops.push(write)?;
-    let mut raw = code_of(alloc, b"one", symbols, body(alloc, 8)?, ops)?;
-    raw.kind = kind;
-    first_flaw_of(alloc, raw)
+    let mut ops = ops(alloc, &READS)?;
+    ops.push(op(alloc, OpName::Assign, &[number, number], &[])?)?;
+    let body = body(alloc, &ops)?;
+    code(alloc, b"one", symbols, body, ops)
 }
 
 #[test]
@@ -87,7 +83,9 @@ fn kinds_write_their_globals(rt: HostRuntime) -> Result<(), Fail> {
     let alloc = rt.alloc();
     for (kind, may) in &KIND_ROWS {
         for (number, may) in may.iter().enumerate() {
-            let (wrong, at) = written_flaw(alloc, *kind, number as u32)?;
+            let mut raw = written(alloc, number as u32)?;
+            raw.kind = *kind;
+            let (wrong, at) = flaw_of(alloc, raw)?;
             let flaw = if *may { None } else { Some(FlawKind::Op) };
             assert!(rt; wrong == flaw, "{kind:?}, global {number}");
             assert_eq!(rt; at, if *may { 0 } else { 7 }, "{kind:?}, global {number}");
@@ -258,21 +256,12 @@ static OWNER_ROWS: [OwnerRow; 18] = [
 ];
 
 fn owner_flaw(alloc: Global, row: &OwnerRow) -> Result<(Option<FlawKind>, u32), Memory> {
-    let mut symbols = Vec::new(alloc);
-    for symbol in &SYMBOLS {
-        symbols.push(named(alloc, symbol)?)?;
-    }
-    let mut sections = Vec::new(alloc);
-    for part in row.sections {
-        let (param, start, end) = *part;
-        sections.push(Section { param, start, end })?;
-    }
-    let mut ops = Vec::new(alloc);
-    for line in row.ops {
-        ops.push(op(alloc, line)?)?;
-    }
-    let raw = code_of(alloc, b"one", symbols, sections, ops)?;
-    first_flaw_of(alloc, raw)
+    let symbols = all_named(alloc, &SYMBOLS)?;
+    let sections = sections(alloc, row.sections)?;
+    flaw_of(
+        alloc,
+        code(alloc, b"one", symbols, sections, ops(alloc, row.ops)?)?,
+    )
 }
 
 #[test]

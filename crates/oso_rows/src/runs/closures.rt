@@ -1,10 +1,10 @@
 //! Operations on closures, the closure of a layer, and a closure that one layer gives to another.
 
-use super::layers::{Line, Sample, body, op, ops, shader, symbol, value};
-use super::runs::{Layer, ended, output};
-use crate::{Given, OutRef};
+use super::{Layer, ended, output};
+use crate::code::{Line, Sample, body, op, ops, shader, symbol, value};
 use bumpalo::Bump;
 use osl_closure::{Node, flatten};
+use osl_interp::{Given, OutRef};
 use osl_value::{Base, Fx, LayerValues, Memory, OpName, Part, Primitive, Ty, Value};
 use oso_code::{Class, Op, Shader, Symbol};
 use std::alloc::Global;
