@@ -12,8 +12,6 @@ mod plain;
 pub mod read;
 pub mod slot;
 mod ternary;
-#[cfg(test)]
-mod tests;
 mod unary;
 
 pub use execution::execute;

@@ -8,6 +8,3 @@ mod row;
 mod words;
 
 pub use row::BitRow;
-
-#[cfg(test)]
-mod tests;

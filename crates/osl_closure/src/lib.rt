@@ -17,6 +17,3 @@ mod weight;
 
 pub use node::{Node, add, empty, leaf, scale};
 pub use walk::flatten;
-
-#[cfg(test)]
-mod tests;

@@ -10,8 +10,6 @@ mod decimal;
 mod digits;
 pub mod laws;
 mod read;
-#[cfg(test)]
-mod tests;
 mod write;
 
 pub use read::{read_canonical_fx, read_canonical_int, read_fx, read_int};

@@ -10,8 +10,6 @@ mod files;
 pub mod laws;
 mod lines;
 mod number;
-#[cfg(test)]
-mod tests;
 mod texts;
 
 pub use files::{DemoFiles, demo_files};

@@ -12,6 +12,3 @@ pub mod work;
 pub use fan::fan_out;
 pub use gate::{Gate, NoGate};
 pub use work::Work;
-
-#[cfg(test)]
-mod tests;

@@ -9,8 +9,6 @@
 mod floats;
 mod geometry;
 mod integers;
-#[cfg(test)]
-mod tests;
 
 pub use floats::{one, three, two};
 pub use geometry::geometric;

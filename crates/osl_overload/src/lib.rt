@@ -12,6 +12,3 @@ mod standing;
 
 pub use choice::{Choice, choose};
 pub use signature::{Arg, Formal, FormalList, Kind, Signature};
-
-#[cfg(test)]
-mod tests;

@@ -111,6 +111,3 @@ pub trait Sink {
         ensures counts { CountsPut (faults self.old) (faults self.new) result }
         ensures faultless { SinkStaysFaultless (faultless self.old) (faultless self.new) (faults self.old) (faults self.new) };
 }
-
-#[cfg(test)]
-mod tests;

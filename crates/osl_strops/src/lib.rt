@@ -7,8 +7,6 @@
 
 mod matrices;
 mod strings;
-#[cfg(test)]
-mod tests;
 
 pub use matrices::{mat_mul, place, transform, transpose};
 pub use strings::{concat, endswith, getchar, startswith, strlen, substr};

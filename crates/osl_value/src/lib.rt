@@ -14,8 +14,6 @@ pub mod layer_values;
 pub mod memory;
 pub mod op_name;
 pub mod point;
-#[cfg(test)]
-mod tests;
 pub mod text;
 pub mod types;
 pub mod value;

@@ -38,6 +38,3 @@ pub fn read_words(alloc: Global, words: &[String]) -> Result<Option<Job>, Memory
         _ => Ok(None),
     }
 }
-
-#[cfg(test)]
-mod tests;

@@ -1,4 +1,6 @@
-use crate::{Job, Name, read_words};
+//! The words of commands.
+
+use osl_words::{Job, Name, read_words};
 use std::alloc::{AllocError, Global};
 use std::test::Fail;
 

@@ -1,4 +1,6 @@
-use crate::{
+//! Files in memory and on the disk, and output.
+
+use osl_store::{
     FileStore, MemorySink, MemoryStore, PutError, ReadError, Sink, StdSink, Store, WriteError,
 };
 use std::alloc::{AllocError, Global};

@@ -1,4 +1,6 @@
-use crate::{Gate, NoGate, Work, fan_out};
+//! Members at work side by side.
+
+use osl_fan::{Gate, NoGate, Work, fan_out};
 use std::sync::Wait;
 use std::sync::atomic::{AtomicU64, Ordering};
 use std::thread::Threads;

@@ -1,14 +1,9 @@
-use crate::closure::{Part, PartList, Primitive};
-use crate::fx::Fx;
-use crate::layer_values::LayerValues;
-use crate::op_name::OpName;
-use crate::text::Text;
-use crate::types::{Base, Ty};
-use crate::value::Value;
+//! Numbers, texts, values and their types. The expected numbers were computed by whole-number arithmetic outside the
+//! program.
+
+use osl_value::{Base, Fx, LayerValues, OpName, Part, PartList, Primitive, Text, Ty, Value};
 use std::alloc::Global;
 use std::test::Fail;
-
-// The expected numbers were computed by whole-number arithmetic outside the program.
 
 fn of_one(op: OpName, x: Fx) -> Fx {
     match op {

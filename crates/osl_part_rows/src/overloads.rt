@@ -1,4 +1,6 @@
-use crate::{Arg, Choice, Formal, FormalList, Kind, Signature, choose};
+//! The choice of an overload.
+
+use osl_overload::{Arg, Choice, Formal, FormalList, Kind, Signature, choose};
 use osl_value::{Base, Ty};
 use std::alloc::{AllocError, Global};
 use std::test::Fail;

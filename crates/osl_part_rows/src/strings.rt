@@ -1,11 +1,12 @@
-use crate::{
+//! Operations on strings and matrices. The expected numbers were computed by whole-number arithmetic outside the
+//! program.
+
+use osl_strops::{
     concat, endswith, getchar, mat_mul, place, startswith, strlen, substr, transform, transpose,
 };
 use osl_value::{Fx, Text};
 use std::alloc::Global;
 use std::test::Fail;
-
-// The expected numbers were computed by whole-number arithmetic outside the program.
 
 fn text(alloc: Global, bytes: &[u8]) -> Result<Text, Fail> {
     let bytes = Vec::from_slice(alloc, bytes)?;

@@ -1,6 +1,8 @@
+//! Rows of bits.
+
 ghost use Rattle.std.specs.Prelude.{◌≡◌, ◌<◌, IfOk, length};
 
-use crate::BitRow;
+use osl_bits::BitRow;
 use osl_value::Memory;
 use std::alloc::Global;
 use std::process::Abort;

@@ -1,7 +1,7 @@
-use crate::{demo_files, fold};
-use std::test::Fail;
+//! The files of the demonstration. The expected lengths, lines and numbers were worked out outside the program.
 
-// The expected lengths, lines and numbers were worked out outside the program.
+use osl_demo::{demo_files, fold};
+use std::test::Fail;
 
 // The names of the files.
 static NAMES: [&str; 5] = ["gen.osl", "top.osl", "g", "p", "e"];

@@ -1,7 +1,7 @@
-use crate::{geometric, ints, one, three, two};
-use osl_value::{Fx, OpName};
+//! Operations on numbers. The expected numbers were computed by whole-number arithmetic outside the program.
 
-// The expected numbers were computed by whole-number arithmetic outside the program.
+use osl_ops::{geometric, ints, one, three, two};
+use osl_value::{Fx, OpName};
 
 #[test]
 fn arithmetic_on_ints(rt: HostRuntime) {

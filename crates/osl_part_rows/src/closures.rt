@@ -1,6 +1,8 @@
-use crate::node::{Node, add, empty, leaf, scale};
-use crate::walk::flatten;
+//! Closures, and their lists of parts.
+
 use bumpalo::Bump;
+use osl_closure::node::{Node, add, empty, leaf, scale};
+use osl_closure::walk::flatten;
 use osl_value::{Fx, Memory, PartList, Primitive, Text};
 use std::alloc::Global;
 use std::process::Abort;

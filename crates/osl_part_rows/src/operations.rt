@@ -1,12 +1,12 @@
-// Operations through `execute`. The expected values were worked out by hand.
+//! Operations on slots, through `execute`. The expected values were worked out by hand.
 
 ghost use Rattle.std.specs.Prelude.{◌≡◌, false, IsTrue, [], ◌∷◌};
 ghost use Rattle.osl_value.specs.Apply.{is_allowed};
 ghost use Rattle.osl_value.specs.Table.{updates};
 ghost use Rattle.osl_value.specs.Types.{only};
 
-use crate::{Kind, Slot, execute};
 use bumpalo::Bump;
+use osl_apply::{Kind, Slot, execute};
 use osl_closure::{empty, flatten};
 use osl_value::{Base, Fx, Memory, OpName};
 use std::alloc::Global;

@@ -1,4 +1,6 @@
-use crate::{read_canonical_fx, read_canonical_int, read_fx, read_int, write_fx, write_int};
+//! Decimal texts, read and written.
+
+use osl_decimal::{read_canonical_fx, read_canonical_int, read_fx, read_int, write_fx, write_int};
 use osl_value::Fx;
 use std::test::Fail;
 
