@@ -84,7 +84,11 @@ fn operation_call(
 {
     let operands = fit_all(alloc, signature.params.as_slice(), args)?;
     let ty = plain_type(signature.result)?;
-    Ok(value(TypedExpr::Apply(name, ty, operands), signature.result))
+    value(
+        alloc,
+        TypedExpr::Apply(name, ty, operands),
+        signature.result,
+    )
 }
 
 /// A call of `substr` up to the end.
@@ -94,10 +98,8 @@ fn substr_to_end(alloc: Global, signature: &Signature, args: Vec<Found>) -> Resu
     let mut operands = fit_all(alloc, signature.params.as_slice(), args)?;
     let ty = plain_type(signature.result)?;
     operands.push(TypedExpr::Int(LONGEST))?;
-    Ok(value(
-        TypedExpr::Apply(OpName::SubStr, ty, operands),
-        signature.result,
-    ))
+    let tree = TypedExpr::Apply(OpName::SubStr, ty, operands);
+    value(alloc, tree, signature.result)
 }
 
 /// A call of a declared function.
@@ -110,10 +112,8 @@ fn declared_call(
     ensures { Says (spec.called_as (Declared number) (candidate signature.now (Declared number)) args.items) result }
 {
     let passed = pass_all(alloc, signature.params.as_slice(), args)?;
-    Ok(value(
-        TypedExpr::Call(number, signature.result, passed),
-        signature.result,
-    ))
+    let tree = TypedExpr::Call(number, signature.result, passed);
+    value(alloc, tree, signature.result)
 }
 
 fn called_as(
@@ -128,7 +128,7 @@ fn called_as(
         Callee::Declared(number) => declared_call(alloc, number, signature, args),
         Callee::Operation(name) => operation_call(alloc, name, signature, args),
         Callee::SubstrToEnd => substr_to_end(alloc, signature, args),
-        Callee::Exit => Ok(value(TypedExpr::Exit, Kind::Void)),
+        Callee::Exit => value(alloc, TypedExpr::Exit, Kind::Void),
     }
 }
 

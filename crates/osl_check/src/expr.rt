@@ -30,7 +30,7 @@ fn text(alloc: Global, bytes: &[u8]) -> Result<Found, TypeError>
 {
     let bytes = Items::from_slice(alloc, bytes)?;
     let kind = Kind::Value(Ty::only(Base::Str));
-    Ok(value(TypedExpr::Text(bytes), kind))
+    value(alloc, TypedExpr::Text(bytes), kind)
 }
 
 /// A variable by its name.
@@ -78,8 +78,8 @@ fn found_form(alloc: Global, sight: &Sight, scope: &Scope, a: &Expr) -> Result<F
     ensures { Says (spec.found_form (sight_of sight.now) scope.now.bindings a.now) result }
 {
     match a {
-        Expr::Int(n) => Ok(int_literal(*n)),
-        Expr::Float(units) => Ok(value(TypedExpr::Float(*units), FLOAT)),
+        Expr::Int(n) => int_literal(alloc, *n),
+        Expr::Float(units) => value(alloc, TypedExpr::Float(*units), FLOAT),
         Expr::Text(bytes) => text(alloc, bytes.as_slice()),
         Expr::Name(word) => name(alloc, scope, word.as_slice()),
         Expr::Call(word, args) => {
@@ -105,7 +105,7 @@ fn found_form(alloc: Global, sight: &Sight, scope: &Scope, a: &Expr) -> Result<F
         }
         Expr::Postfix(operator, a) => {
             let a = found_form(alloc, sight, scope, a.get())?;
-            postfixed(*operator, a)
+            postfixed(alloc, *operator, a)
         }
         Expr::Prefix(operator, a) => {
             let a = found_form(alloc, sight, scope, a.get())?;

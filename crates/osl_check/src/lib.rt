@@ -17,4 +17,3 @@ mod shader;
 mod statements;
 
 pub use shader::check;
-

@@ -25,7 +25,7 @@ use std::alloc::Global;
 fn evaluated(alloc: Global, sight: &Sight, scope: &Scope, a: &Expr) -> Result<TypedExpr, TypeError>
     ensures { Says (spec.evaluated (in_sight (sight_of sight.now)) scope.now a.now) result }
 {
-    tree_of(alloc, typing(alloc, sight, scope, a)?)
+    Ok(tree_of(typing(alloc, sight, scope, a)?))
 }
 
 fn maybe_evaluated(
@@ -48,7 +48,7 @@ fn condition(alloc: Global, sight: &Sight, scope: &Scope, a: &Expr) -> Result<Ty
 {
     let b = typing(alloc, sight, scope, a)?;
     when(is_numeric(b.kind))?;
-    tree_of(alloc, b)
+    Ok(tree_of(b))
 }
 
 fn maybe_condition(

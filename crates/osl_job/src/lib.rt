@@ -102,4 +102,3 @@ pub fn run_plain<S: Store, K: Sink>(
         Err(PutError::Memory) => NO_MEMORY,
     }
 }
-

@@ -13,4 +13,3 @@ pub mod structures;
 pub use fields::Fields;
 pub use scope::Scope;
 pub use structures::Structures;
-

@@ -3,7 +3,7 @@
 use crate::expr::{Part, Root, TypedExpr};
 use osl_overload::Kind;
 use osl_value::OpName;
-use sqlite_items::Items;
+use sqlite_items::{Boxed, Items};
 
 /// What a variable's name is tied to.
 #[derive(Drop)]
@@ -32,15 +32,15 @@ pub enum Callee {
     Exit,
 }
 
-/// An expression, as its suffixes build it up.
+/// An expression, as its suffixes build it up. Trees are boxed: a form is small, and is let go by few calls.
 #[derive(Drop)]
 pub enum Form {
     /// A variable or a part of one, and whether it may be assigned.
     Place(Root, bool, Part, Items<TypedExpr>),
     /// A part of a value, by the kind of that value.
-    Piece(Kind, TypedExpr, Part, Items<TypedExpr>),
+    Piece(Kind, Boxed<TypedExpr>, Part, Items<TypedExpr>),
     /// Any other expression.
-    Whole(TypedExpr),
+    Whole(Boxed<TypedExpr>),
 }
 
 /// A typed expression, and what is known of it.

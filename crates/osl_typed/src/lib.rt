@@ -23,4 +23,3 @@ pub use shader::{TypedDatum, TypedFunction, TypedParam, TypedShader, TypedStruct
 pub use sizes::Sizes;
 pub use stmt::{Declared, TypedForStart, TypedInit, TypedStmt};
 pub use typed::Typed;
-

@@ -68,7 +68,7 @@ fn set_to(alloc: Global, kind: Kind, target: Target, b: Found) -> Result<Found, 
         part,
         indices,
     } = target;
-    Ok(value(TypedExpr::Assign(root, part, indices, right), kind))
+    value(alloc, TypedExpr::Assign(root, part, indices, right), kind)
 }
 
 /// Whether a value of a type may stand where a kind is wanted.
@@ -100,7 +100,7 @@ fn update(
         indices,
     } = target;
     let tree = TypedExpr::Update(o.op, o.ty, root, part, indices, right);
-    Ok(value(tree, kind))
+    value(alloc, tree, kind)
 }
 
 /// `x += b` and the like, of this kind, by its operation.

@@ -6,9 +6,8 @@ ghost use Rattle.osl_typing.specs.Says.{Says};
 
 use crate::error::TypeError;
 use crate::fitting::fit;
-use crate::forms::{expression, value, when};
+use crate::forms::{boxed_tree, expression, value, when};
 use crate::kinds::{CLOSURE, is_numeric, joined, same_kind};
-use crate::operators::boxed_tree;
 use osl_overload::Kind;
 use osl_typed::{Found, TypedExpr};
 use sqlite_items::Boxed;
@@ -56,5 +55,5 @@ fn chosen(
     let test = boxed_tree(alloc, test)?;
     let left = Boxed::new(alloc, left)?;
     let right = Boxed::new(alloc, right)?;
-    Ok(value(TypedExpr::Choose(kind, test, left, right), kind))
+    value(alloc, TypedExpr::Choose(kind, test, left, right), kind)
 }

@@ -47,7 +47,7 @@ fn trees(alloc: Global, args: Vec<Found>) -> Result<Items<TypedExpr>, TypeError>
 {
     let mut trees = Items::new(alloc);
     for a in args {
-        let tree = tree_of(alloc, a)?;
+        let tree = tree_of(a);
         trees.push(tree)?;
     }
     Ok(trees)
@@ -59,7 +59,7 @@ fn made_of(alloc: Global, name: OpName, ty: Ty, args: Vec<Found>) -> Result<Foun
 {
     when(are_numbers(args.as_slice()))?;
     let operands = trees(alloc, args)?;
-    Ok(value(TypedExpr::Apply(name, ty, operands), Kind::Value(ty)))
+    value(alloc, TypedExpr::Apply(name, ty, operands), Kind::Value(ty))
 }
 
 /// What a cast makes of the one argument.

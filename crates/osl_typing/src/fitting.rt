@@ -5,11 +5,10 @@ ghost use Rattle.osl_typed.specs.Typing as spec;
 ghost use Rattle.osl_typing.specs.Says.{Says};
 
 use crate::error::TypeError;
-use crate::forms::{as_argument, plain_type, tree_of};
+use crate::forms::{as_argument, boxed_tree, plain_type, tree_of};
 use osl_overload::Kind;
 use osl_overload::cost::cost;
 use osl_typed::{Found, TypedExpr};
-use sqlite_items::Boxed;
 use std::alloc::Global;
 
 /// What stands where a kind is wanted by `=`: the expression as it is where it has the kind, and promoted where it
@@ -21,12 +20,11 @@ pub fn fit(alloc: Global, kind: Kind, a: Found) -> Result<TypedExpr, TypeError>
     match cost(as_argument(&a), kind) {
         None => Err(TypeError::NoTyping),
         Some(steps) => {
-            let tree = tree_of(alloc, a)?;
             if steps == 0 {
-                return Ok(tree);
+                return Ok(tree_of(a));
             }
             let ty = plain_type(kind)?;
-            Ok(TypedExpr::Promote(ty, Boxed::new(alloc, tree)?))
+            Ok(TypedExpr::Promote(ty, boxed_tree(alloc, a)?))
         }
     }
 }

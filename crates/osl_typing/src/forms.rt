@@ -34,27 +34,29 @@ pub fn plain_type(kind: Kind) -> Result<Ty, TypeError>
 }
 
 /// An expression that is no variable and no part of one.
-pub fn value(tree: TypedExpr, kind: Kind) -> Found
-    ensures { result ≡ spec.value tree kind }
+pub fn value(alloc: Global, tree: TypedExpr, kind: Kind) -> Result<Found, TypeError>
+    ensures { Says (Some (spec.value tree kind)) result }
 {
-    Found {
+    let tree = Boxed::new(alloc, tree)?;
+    Ok(Found {
         form: Form::Whole(tree),
         kind,
         zero_literal: false,
         is_row: false,
-    }
+    })
 }
 
 /// The literal of an int. The literal `0` may stand for the empty closure.
-pub fn int_literal(n: i32) -> Found
-    ensures { result ≡ spec.int_literal n }
+pub fn int_literal(alloc: Global, n: i32) -> Result<Found, TypeError>
+    ensures { Says (Some (spec.int_literal n)) result }
 {
-    Found {
-        form: Form::Whole(TypedExpr::Int(n)),
+    let tree = Boxed::new(alloc, TypedExpr::Int(n))?;
+    Ok(Found {
+        form: Form::Whole(tree),
         kind: INT,
         zero_literal: n == 0,
         is_row: false,
-    }
+    })
 }
 
 /// The way to the whole of something of a kind.
@@ -86,14 +88,26 @@ pub fn variable(alloc: Global, b: &Binding) -> Found
 }
 
 /// The typed tree of what was found.
-pub fn tree_of(alloc: Global, a: Found) -> Result<TypedExpr, TypeError>
+pub fn tree_of(a: Found) -> TypedExpr
+    ensures { result ≡ spec.tree_of a }
+{
+    match a.form {
+        Form::Place(root, _, part, indices) => TypedExpr::Variable(root, part, indices),
+        Form::Piece(kind, tree, part, indices) => TypedExpr::PartOf(kind, tree, part, indices),
+        Form::Whole(tree) => tree.into_inner(),
+    }
+}
+
+/// The typed tree of what was found, boxed.
+pub fn boxed_tree(alloc: Global, a: Found) -> Result<Boxed<TypedExpr>, TypeError>
     ensures { Says (Some (spec.tree_of a)) result }
 {
     match a.form {
-        Form::Place(root, _, part, indices) => Ok(TypedExpr::Variable(root, part, indices)),
+        Form::Place(root, _, part, indices) => {
+            Ok(Boxed::new(alloc, TypedExpr::Variable(root, part, indices))?)
+        }
         Form::Piece(kind, tree, part, indices) => {
-            let tree = Boxed::new(alloc, tree)?;
-            Ok(TypedExpr::PartOf(kind, tree, part, indices))
+            Ok(Boxed::new(alloc, TypedExpr::PartOf(kind, tree, part, indices))?)
         }
         Form::Whole(tree) => Ok(tree),
     }
@@ -140,6 +154,6 @@ pub fn in_parens(alloc: Global, a: Found) -> Result<Found, TypeError>
     ensures { Says (Some (spec.in_parens a)) result }
 {
     let kind = a.kind;
-    let tree = Boxed::new(alloc, tree_of(alloc, a)?)?;
-    Ok(value(TypedExpr::Paren(kind, tree), kind))
+    let tree = boxed_tree(alloc, a)?;
+    value(alloc, TypedExpr::Paren(kind, tree), kind)
 }

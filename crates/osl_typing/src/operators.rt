@@ -8,7 +8,7 @@ ghost use Rattle.osl_typing.specs.Says.{Says};
 
 use crate::error::TypeError;
 use crate::fitting::fit;
-use crate::forms::{expression, plain_type, tree_of, value, when};
+use crate::forms::{boxed_tree, expression, plain_type, tree_of, value, when};
 use crate::kinds::{
     INT, TypedOperator, base_named, conversion_of, is_arithmetic, is_convertible, is_number,
     is_numeric, operation,
@@ -17,7 +17,7 @@ use osl_overload::Kind;
 use osl_tree::expr::{BaseType, BinaryOp, PostfixOp, PrefixOp};
 use osl_typed::{Form, Found, Part, Root, Step, TypedExpr, types};
 use osl_value::{Base, OpName, Ty};
-use sqlite_items::{Boxed, Items};
+use sqlite_items::Items;
 use std::alloc::Global;
 
 fn one_item(alloc: Global, a: TypedExpr) -> Result<Items<TypedExpr>, TypeError>
@@ -41,9 +41,8 @@ fn two_items(alloc: Global, a: TypedExpr, b: TypedExpr) -> Result<Items<TypedExp
 fn apply_one(alloc: Global, name: OpName, ty: Ty, a: Found) -> Result<Found, TypeError>
     ensures { Says (Some (pieces.apply_one name ty a)) result }
 {
-    let a = tree_of(alloc, a)?;
-    let operands = one_item(alloc, a)?;
-    Ok(value(TypedExpr::Apply(name, ty, operands), Kind::Value(ty)))
+    let operands = one_item(alloc, tree_of(a))?;
+    value(alloc, TypedExpr::Apply(name, ty, operands), Kind::Value(ty))
 }
 
 /// `-a` or `+a`, of a number or a triple.
@@ -96,21 +95,21 @@ fn whole_variable(form: &Form) -> Result<Root, TypeError>
 }
 
 /// `++` or `--` on an expression.
-fn step_of(step: Step, b: &Found) -> Result<Found, TypeError>
+fn step_of(alloc: Global, step: Step, b: &Found) -> Result<Found, TypeError>
     ensures { Says (pieces.step_of step b.now) result }
 {
     let ty = plain_type(b.kind)?;
     when(is_number(ty))?;
     let root = whole_variable(&b.form)?;
-    Ok(value(TypedExpr::Step(step, ty, root), b.kind))
+    value(alloc, TypedExpr::Step(step, ty, root), b.kind)
 }
 
 /// `++` or `--`, on a whole variable of ints or of floats.
-fn stepped(step: Step, a: Found) -> Result<Found, TypeError>
+fn stepped(alloc: Global, step: Step, a: Found) -> Result<Found, TypeError>
     ensures { Says (spec.stepped step a) result }
 {
     let b = expression(a)?;
-    step_of(step, &b)
+    step_of(alloc, step, &b)
 }
 
 /// An operator before its operand.
@@ -123,19 +122,19 @@ pub fn prefixed(alloc: Global, operator: PrefixOp, a: Found) -> Result<Found, Ty
         PrefixOp::Plus => signed(alloc, OpName::Assign, a),
         PrefixOp::Complement => complement(alloc, a),
         PrefixOp::Not => negation(alloc, a),
-        PrefixOp::Increment => stepped(Step::IncrementFirst, a),
-        PrefixOp::Decrement => stepped(Step::DecrementFirst, a),
+        PrefixOp::Increment => stepped(alloc, Step::IncrementFirst, a),
+        PrefixOp::Decrement => stepped(alloc, Step::DecrementFirst, a),
     }
 }
 
 /// An operator behind its operand.
 #[tactic(auto, unfolding(osl_typed::specs::Typing::postfixed))]
-pub fn postfixed(operator: PostfixOp, a: Found) -> Result<Found, TypeError>
+pub fn postfixed(alloc: Global, operator: PostfixOp, a: Found) -> Result<Found, TypeError>
     ensures { Says (spec.postfixed operator a) result }
 {
     match operator {
-        PostfixOp::Increment => stepped(Step::IncrementAfter, a),
-        PostfixOp::Decrement => stepped(Step::DecrementAfter, a),
+        PostfixOp::Increment => stepped(alloc, Step::IncrementAfter, a),
+        PostfixOp::Decrement => stepped(alloc, Step::DecrementAfter, a),
     }
 }
 
@@ -168,7 +167,7 @@ fn apply_two(
     ensures { Says (Some (pieces.apply_two name ty left right)) result }
 {
     let operands = two_items(alloc, left, right)?;
-    Ok(value(TypedExpr::Apply(name, ty, operands), Kind::Value(ty)))
+    value(alloc, TypedExpr::Apply(name, ty, operands), Kind::Value(ty))
 }
 
 /// An operation on an operand that is as it wants it, and one that is not yet.
@@ -200,19 +199,12 @@ fn operated(alloc: Global, operator: BinaryOp, a: Found, b: Found) -> Result<Fou
     operated_by(alloc, o, a, b)
 }
 
-pub(crate) fn boxed_tree(alloc: Global, a: Found) -> Result<Boxed<TypedExpr>, TypeError>
-    ensures { Says (Some (spec.tree_of a)) result }
-{
-    let a = tree_of(alloc, a)?;
-    Ok(Boxed::new(alloc, a)?)
-}
-
 fn and_of(alloc: Global, a: Found, b: Found) -> Result<Found, TypeError>
     ensures { Says (Some (spec.value (TypedExpr.And (spec.tree_of a) (spec.tree_of b)) int)) result }
 {
     let a = boxed_tree(alloc, a)?;
     let b = boxed_tree(alloc, b)?;
-    Ok(value(TypedExpr::And(a, b), INT))
+    value(alloc, TypedExpr::And(a, b), INT)
 }
 
 fn or_of(alloc: Global, a: Found, b: Found) -> Result<Found, TypeError>
@@ -220,7 +212,7 @@ fn or_of(alloc: Global, a: Found, b: Found) -> Result<Found, TypeError>
 {
     let a = boxed_tree(alloc, a)?;
     let b = boxed_tree(alloc, b)?;
-    Ok(value(TypedExpr::Or(a, b), INT))
+    value(alloc, TypedExpr::Or(a, b), INT)
 }
 
 /// `a && b`, of numbers.

@@ -80,8 +80,7 @@ fn element(alloc: Global, a: Found, i: TypedExpr) -> Result<Found, TypeError>
 fn element_at(alloc: Global, a: Found, number: Found) -> Result<Found, TypeError>
     ensures { Says (pieces.element a (spec.tree_of number)) result }
 {
-    let i = tree_of(alloc, number)?;
-    element(alloc, a, i)
+    element(alloc, a, tree_of(number))
 }
 
 /// An index, if it is an int.
