@@ -1,5 +1,5 @@
 -- Ops: what each goes on with.
-use Rattle.std.proofs.Common.{◌≡◌, ◌≢◌, ℕ, ◌+◌, ◌-◌, ◌*◌, ◌<◌, ◌≤◌, ⊎_elim, List, [], ◌∷◌, ◌++◌, length, map, get_or, Option, Some, None, Bool, true, false, refl, sym, ap, ◌∙◌, subst, arith}
+use Rattle.std.proofs.Common.{◌≡◌, ◌≢◌, ℕ, ◌+◌, ◌-◌, ◌*◌, ◌<◌, ◌≤◌, inl, ⊎_elim, List, [], ◌∷◌, ◌++◌, length, map, get_or, Option, Some, None, Bool, true, false, refl, sym, ap, ◌∙◌, subst, arith}
 use Rattle.std.specs.Prelude.{slice_get, slice_set, nat_eq, if◌then◌else◌, IsTrue}
 use Rattle.std.proofs.Math.ListN.{length-set}
 use Rattle.std.proofs.lemmas.Bool.{cases_eq, eqb-true, eqb-false}
@@ -23,7 +23,7 @@ use Rattle.oso_code.specs.declared.op.Op.{Op}
 use Rattle.oso_code.specs.Steps.{step_of}
 use Rattle.oso_code.proofs.Decoding.{step_at, length_steps}
 use Rattle.oso_code.proofs.Nested.{valid_nested}
-use Rattle.osl_interp.specs.Advances.{Advances, Asks, EndsAs, here, turn_weight, one_op}
+use Rattle.osl_interp.specs.Advances.{Advances, Asks, EndsAs, here, reads_first, turn_weight, one_op}
 use Rattle.osl_interp.specs.Decoded.{seen_span}
 use Rattle.osl_interp.specs.Known.{met, is_wired, is_wired_at, given_reads, FitsAt, Fits}
 use Rattle.osl_interp.specs.Meaning.{Configuration, held_values, configuration, behind, resume, now, state_of, later_sections, comes_from, meaning}
@@ -67,17 +67,20 @@ spent_by c step a inputs s t is =
 
 -- an op that reads these symbols first
 pub record Reads (c : Configuration) (step : S.Step) (ks : List ℕ) : Type 0 where
+  pub first : reads_first step ≡ ks
   pub go : Inputs → List AnyValue → State → Outcome
   pub is : (inputs : Inputs) (s : State) → acts inputs c step s ≡ arguments (sources_of c.code inputs) ks s (go inputs)
 
 abbrev pub computes : (c : Configuration) (name : OpName) (ty : Ty) (target : ℕ) (sources : List ℕ) → Reads c (S.Compute name ty target sources) sources
 computes c name ty target sources = record {
+  first = refl;
   go = λ inputs vs s1. range (sources_of c.code inputs) (steps_of c.code) (c.at + 1) c.end (write target (apply name ty vs) s1);
   is = λ inputs s. refl;
 }
 
 abbrev pub branches : (c : Configuration) (k : ℕ) (holds fails : S.Span) → Reads c (S.Branch k holds fails) (k ∷ [])
 branches c k holds fails = record {
+  first = refl;
   go = λ inputs. first_of (λ v s1. then_do (either (is_so v) (run_span (range (sources_of c.code inputs) (steps_of c.code)) holds) (run_span (range (sources_of c.code inputs) (steps_of c.code)) fails) s1) (range (sources_of c.code inputs) (steps_of c.code) fails.end c.end));
   is = λ inputs s. refl;
 }
@@ -91,6 +94,7 @@ pub read_asks : (c : Configuration) (step : S.Step) (ks : List ℕ) (p : ℕ) �
 read_asks c step ks p a r waits =
     record {
       waits = one_waits c.inputs ks p waits;
+      next = (ks, (inl (record { runs = a.runs; inside = a.inside; step = step; op = a.op; reads = r.first }), waits));
       notes = λ inputs h s.
           let fit = sources_fit c.code c.inputs c.values a.ready.laid inputs h in
           comes_by c step a inputs s

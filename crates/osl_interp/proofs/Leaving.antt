@@ -8,7 +8,7 @@ use Rattle.oso_code.specs.Ranges.{steps_of}
 use Rattle.oso_code.specs.Run.{State, note, Sources, Outcome, Next, Leaves, Spent, then_do, read, is_so, Holds, Fails, on_test, test_after, after_body, call_end, arguments}
 use Rattle.oso_code.specs.Steps as S
 use Rattle.oso_code.proofs.Loops.{loop_first, test_gainless, run_gainless}
-use Rattle.osl_interp.specs.Advances.{Advances, Asks, StopDone, IsLast, weight, turn_weight, no_op}
+use Rattle.osl_interp.specs.Advances.{Advances, Asks, ReadsNext, StopDone, IsLast, weight, turn_weight, no_op}
 use Rattle.osl_interp.specs.Known.{met, Fits}
 use Rattle.osl_interp.specs.Meaning.{Configuration, run_range, from_test, from_turn, from_step, behind, close, resume, now, state_of, later_sections, comes_from, meaning}
 use Rattle.osl_interp.specs.Ready.{IsLoop, Ready}
@@ -244,10 +244,11 @@ test_missing c l e t runs missing inputs h n =
     top_spent c (Test l e) inputs (state_of n c) (state_of n c) (tested_by c l e t runs inputs (state_of n c) ∙ ap (λ o. then_do o (behind from steps l e)) (arguments_missing c.code from c.inputs c.values fit (l.condition ∷ []) c.turns n (first_of (chosen from steps l)) missing))
 
 -- the condition was not given
-pub test_asks : (c : Configuration) (l : LoopOp) (e p : ℕ) → Top c (Test l e) → c.mode ≡ M.Run → met c.inputs (l.condition ∷ []) ≡ T.Waiting p → Asks (top c (Test l e)) p
-test_asks c l e p t runs waits =
+pub test_asks : (c : Configuration) (l : LoopOp) (e p : ℕ) → Top c (Test l e) → c.mode ≡ M.Run → ReadsNext (top c (Test l e)) (l.condition ∷ []) → met c.inputs (l.condition ∷ []) ≡ T.Waiting p → Asks (top c (Test l e)) p
+test_asks c l e p t runs next waits =
     record {
       waits = one_waits c.inputs (l.condition ∷ []) p waits;
+      next = (l.condition ∷ [], (next, waits));
       notes = λ inputs h s.
           let from = sources_of c.code inputs in
           let steps = steps_of c.code in
@@ -293,7 +294,9 @@ module _ (c : Configuration) (l : LoopOp) (e : ℕ) (last : IsLast (Test l e) c.
   condition_missing missing = (refl, λ inputs h n. ap (meaning inputs n) is_under ∙ test_missing below l e on_top runs missing inputs h n)
 
   pub condition_waits : (p : ℕ) → met c.inputs (l.condition ∷ []) ≡ T.Waiting p → StopDone no_op c c (P.Needs p)
-  condition_waits p waits = (refl, subst (λ x. Asks x p) (sym is_under) (test_asks below l e p on_top runs waits))
+  condition_waits p waits =
+      let next = subst (λ x. ReadsNext x (l.condition ∷ [])) is_under (inr (record { runs = runs; past = past; repeat = l; rest = e; top = last; reads = refl })) in
+      (refl, subst (λ x. Asks x p) (sym is_under) (test_asks below l e p on_top runs next waits))
 
   pub no_turn : met c.inputs (l.condition ∷ []) ≡ T.All → is_so (argument c.values l.condition) ≡ true → c.turns ≡ 0 → StopDone no_op c c P.Spent
   no_turn all is none = (refl, λ inputs h n. ap (meaning inputs n) is_under ∙ test_spent below l e on_top runs all is none inputs h n)

@@ -1,11 +1,12 @@
 -- What a step of the machine did.
-use Rattle.std.specs.Prelude.{◌≡◌, ℕ, ◌+◌, ◌*◌, ◌-◌, ◌<◌, List, [], ◌∷◌, Some, None, drop, length, slice_get}
+use Rattle.std.specs.Prelude.{◌≡◌, ◌⊎◌, ℕ, ◌+◌, ◌*◌, ◌-◌, ◌<◌, ◌≤◌, List, [], ◌∷◌, Some, None, drop, length, slice_get}
 use Rattle.osl_layer.specs.Layer.{Inputs, From}
 use Rattle.oso_code.specs.declared.op.Section.{Section}
 use Rattle.oso_code.specs.declared.raw.Raw.{Raw}
 use Rattle.oso_code.specs.Ranges.{steps_of}
 use Rattle.oso_code.specs.Run.{State, note, Outcome, Next, Leaves, Spent}
-use Rattle.osl_interp.specs.Known.{Fits}
+use Rattle.oso_code.specs.Steps as S
+use Rattle.osl_interp.specs.Known.{met, Fits}
 use Rattle.osl_interp.specs.Meaning.{Configuration, state_of, comes_from, meaning}
 use Rattle.osl_interp.specs.Ready.{Ready}
 use Rattle.osl_interp.specs.declared.frame.Frame.{Frame}
@@ -15,6 +16,7 @@ use Rattle.osl_interp.specs.declared.frame.Mode.{Mode}
 use Rattle.osl_interp.specs.declared.frame.Mode.TheVariants as M
 use Rattle.osl_interp.specs.declared.frame.Span.{Span}
 use Rattle.osl_interp.specs.declared.known.Known.TheVariants.{Waiting}
+use Rattle.osl_interp.specs.declared.known.Met.TheVariants as Meets
 use Rattle.osl_interp.specs.declared.machine.Stop.{Stop}
 use Rattle.osl_interp.specs.declared.machine.Stop.TheVariants as T
 
@@ -77,9 +79,43 @@ EndsAs (Next t) s = t ≡ s
 EndsAs (Leaves way t) s = t ≡ s
 EndsAs (Spent t) s = ⊥
 
+-- f is the innermost frame
+abbrev pub IsLast : Frame → List Frame → Type 0
+IsLast f fs = slice_get fs (length fs - 1) ≡ Some f
+
+-- the symbols that an op reads, before it does anything else
+abbrev pub reads_first : S.Step → List ℕ
+reads_first (S.Compute name ty target sources) = sources
+reads_first (S.Branch c holds fails) = c ∷ []
+reads_first (S.Loop tested c test body step) = []
+reads_first (S.Call body) = []
+reads_first (S.Leave way) = []
+
+-- the machine stands at an op, which reads these
+pub record IsAtOp (c : Configuration) (ks : List ℕ) : Type 0 where
+  pub runs : c.mode ≡ M.Run
+  pub inside : c.at < c.end
+  pub step : S.Step
+  pub op : slice_get (steps_of c.code) c.at ≡ Some step
+  pub reads : reads_first step ≡ ks
+
+-- the range of a loop's condition is over, and the condition is read
+pub record IsAtCondition (c : Configuration) (ks : List ℕ) : Type 0 where
+  pub runs : c.mode ≡ M.Run
+  pub past : c.end ≤ c.at
+  pub repeat : LoopOp
+  pub rest : ℕ
+  pub top : IsLast (Test repeat rest) c.frames
+  pub reads : repeat.condition ∷ [] ≡ ks
+
+abbrev pub ReadsNext : Configuration → List ℕ → Type 0
+ReadsNext c ks = IsAtOp c ks ⊎ IsAtCondition c ks
+
 -- the machine stands at the read of p, which was not given yet
 pub record Asks (c : Configuration) (p : ℕ) : Type 0 where
   pub waits : slice_get c.inputs p ≡ Some Waiting
+  -- of what it reads where it stands, p is the first that was not given, and none before it is nothing
+  pub next : (ks : List ℕ) × (ReadsNext c ks × (met c.inputs ks ≡ Meets.Waiting p))
   -- whatever p is, the run notes that it was read, before anything else is noted
   pub notes : (inputs : Inputs) → Fits inputs c.inputs c.values → (s : State) → comes_from inputs c s ≡ comes_from inputs c (note p s)
   -- where p is nothing the run ends there
@@ -99,7 +135,3 @@ StopDone t old new T.Done =
 StopDone t old new T.Spent =
     (new ≡ old) × ((inputs : Inputs) → Fits inputs old.inputs old.values → (n : ℕ) → meaning inputs n old ≡ Spent (state_of (t n) old))
 StopDone t old new (T.Needs p) = (new ≡ old) × Asks old p
-
--- f is the innermost frame
-abbrev pub IsLast : Frame → List Frame → Type 0
-IsLast f fs = slice_get fs (length fs - 1) ≡ Some f

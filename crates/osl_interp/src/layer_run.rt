@@ -1,7 +1,7 @@
 //! The run of a layer, as its callers see it.
 
-ghost use Rattle.std.specs.Prelude.{◌≡◌, ◌+◌, Some, None, IfOk, OnOk};
-ghost use Rattle.osl_value.specs.AnyValue.{argument, type_of};
+ghost use Rattle.std.specs.Prelude.{◌≡◌, ◌+◌, Some, None, slice_get, IfOk, OnOk};
+ghost use Rattle.osl_value.specs.AnyValue.{type_of};
 ghost use Rattle.osl_apply.specs.Slots.{seen};
 ghost use Rattle.oso_code.specs.Ops.{type_at};
 ghost use Rattle.osl_interp.specs.Layers.{InputsFit, Started, IsReady, IsAsking, IsDone, GoDone, Gave, begins, input_of, HasType, IsOutput, Counted, seen_output, given_of, run_of};
@@ -165,7 +165,7 @@ impl<'a> LayerRun<'a> {
     pub fn output(&self, param: u32) -> OutRef<'_, 'a>
         requires done { IsDone self.now }
         requires output { IsOutput (run_of self.now).code param }
-        ensures { seen_output result ≡ argument (run_of self.now).values param }
+        ensures { slice_get (given_of self.now).outputs param ≡ Some (Some (seen_output result)) }
     {
         match &self.machine.slots[param as usize] {
             Slot::Whole(value) => OutRef::Value(value),

@@ -34,8 +34,16 @@ fn files_of_three_sizes(rt: HostRuntime) -> Result<(), Fail> {
     Ok(())
 }
 
+/// The shaders, which are the same at each size.
+const GENERATED: &str =
+    "shader gen(float a = 1, float b = 0 [[int lockgeom = 0]], output float r = 0) { float s = b + u; for (int i = 0; i < 8; ++i) s = s * 0.5 + a; r = s; }\n";
+
+const TOP: &str = "surface top(float k = 0.5) { Ci = k * diffuse(N) + 0.25 * emission(); }\n";
+
 // A size, one of its files, and how that begins and ends.
-static ENDS: [(u32, u32, &str, &str); 9] = [
+static ENDS: [(u32, u32, &str, &str); 11] = [
+    (1, 0, GENERATED, "\n"),
+    (256, 1, TOP, "\n"),
     (
         1,
         2,

@@ -1,5 +1,5 @@
-//! Tests of values, operations and small parts, in tables, a module for each crate. What is expected was worked out by
-//! hand or by exact arithmetic outside of the program.
+//! Tests of values, operations and small parts, in tables, a module for each crate but the turn lock, whose tests stand
+//! beside it. What is expected was worked out by hand or by exact arithmetic outside of the program.
 #![tactic(auto)]
 
 #[cfg(test)]

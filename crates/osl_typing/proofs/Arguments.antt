@@ -36,10 +36,7 @@ pub alone : (ty : Ty) (args rest : List Found) (a : Found) → length args ≡ 1
 alone ty args [] a h e = ap (converted_alone ty) e
 alone ty args (x ∷ rest) a h e = absurd (let n : length args ≡ suc (length (rest ++ a ∷ [])) = ap length e in let m : length (rest ++ a ∷ []) ≡ length rest + 1 = length-append rest (a ∷ []) in omega arith)
 
-some_same : {A : Type 0} (a b : A) → Some a ≡ Some b → a ≡ b
-some_same a b e = cc
-
-pub one_more_tree : (args : List Found) (trees new : List TypedExpr) (a : Found) (tree : TypedExpr) → trees ≡ map tree_of args → Some (tree_of a) ≡ Some tree → new ≡ trees ++ tree ∷ []
+pub one_more_tree : (args : List Found) (trees new : List TypedExpr) (a : Found) (tree : TypedExpr) → trees ≡ map tree_of args → tree ≡ tree_of a → new ≡ trees ++ tree ∷ []
     → new ≡ map tree_of (args ++ a ∷ [])
 one_more_tree args trees new a tree h t e =
-    e ∙ ap (λ ts. ts ++ tree ∷ []) h ∙ ap (λ (x : TypedExpr). map tree_of args ++ x ∷ []) (sym (some_same (tree_of a) tree t)) ∙ sym (map-append tree_of args (a ∷ []))
+    e ∙ ap (λ ts. ts ++ tree ∷ []) h ∙ ap (λ (x : TypedExpr). map tree_of args ++ x ∷ []) t ∙ sym (map-append tree_of args (a ∷ []))

@@ -80,7 +80,7 @@ static TAKEN: [&str; 71] = [
 ];
 
 /// Assignments that are refused.
-static REFUSED: [&str; 93] = [
+static REFUSED: [&str; 94] = [
     "i = f;",
     "i = c;",
     "f = c;",
@@ -174,6 +174,7 @@ static REFUSED: [&str; 93] = [
     "i *= k;",
     "c *= k;",
     "f += k;",
+    "f >>= 1;",
 ];
 
 /// Assignments with the type that they have: that of their target.

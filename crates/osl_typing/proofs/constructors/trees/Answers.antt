@@ -6,7 +6,7 @@ use Rattle.osl_typing.proofs.Arguments.{one_more_tree}
 use Rattle.osl_typing.proofs.constructors.trees.Goals as goal
 
 pub loop-a-preserved : goal.loop-a-preserved
-loop-a-preserved c = one_more_tree c.loop-a.yielded c.loop-a.trees c.push.new.self c.in-Some.a c.in_ok-tree.tree c.loop-a.invariant c.in_ok-tree.ensures c.in_ok-push.ensures.ok
+loop-a-preserved c = one_more_tree c.loop-a.yielded c.loop-a.trees c.push.new.self c.in-Some.a c.tree_of-tree.result c.loop-a.invariant c.tree_of-tree.ensures c.in_ok-push.ensures.ok
 
 pub returns : goal.returns
 returns c =
