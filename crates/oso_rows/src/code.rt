@@ -149,6 +149,17 @@ pub fn code(
     })
 }
 
+/// The shader of this code; no memory where it is not valid.
+fn valid(alloc: Global, raw: Raw) -> Result<Shader, Memory> {
+    if raw.symbols.len() > 100_000 || raw.ops.len() > 100_000 {
+        return Err(Memory);
+    }
+    match validate(alloc, raw) {
+        Ok(shader) => Ok(shader),
+        Err(_refused) => Err(Memory),
+    }
+}
+
 /// The surface of these symbols, sections and ops; no memory where they are not valid.
 pub fn shader(
     alloc: Global,
@@ -156,13 +167,7 @@ pub fn shader(
     sections: Vec<Section>,
     ops: Vec<Op>,
 ) -> Result<Shader, Memory> {
-    if symbols.len() > 100 || ops.len() > 100 {
-        return Err(Memory);
-    }
     let mut raw = code(alloc, b"layer", symbols, sections, ops)?;
     raw.kind = ShaderKind::Surface;
-    match validate(alloc, raw) {
-        Ok(shader) => Ok(shader),
-        Err(_refused) => Err(Memory),
-    }
+    valid(alloc, raw)
 }
