@@ -3,6 +3,7 @@
 use osl_overload::{Arg, Choice, Formal, FormalList, Kind, Signature, choose};
 use osl_value::{Base, Ty};
 use std::alloc::{AllocError, Global};
+use std::process::Abort;
 use std::test::Fail;
 
 fn of(base: Base) -> Kind {
@@ -47,68 +48,65 @@ fn between(
     Ok(choose(&candidates, args))
 }
 
+/// Two functions of one parameter, and what is chosen of them for an argument.
+type Row = (Kind, Kind, Arg, Choice);
+
+fn all_chosen(rt: &impl Abort, alloc: Global, rows: &[Row]) -> Result<(), Fail> {
+    for &(first, second, arg, wanted) in rows {
+        let answer = between(alloc, &[input(first)], &[input(second)], &[arg])?;
+        assert_eq!(rt; answer, wanted, "{first:?} or {second:?} for {arg:?}");
+    }
+    Ok(())
+}
+
 #[test]
-fn least_cost_of_one_argument(rt: HostRuntime) -> Result<(), Fail> {
+fn least_cost_of_a_promotion(rt: HostRuntime) -> Result<(), Fail> {
     let (int, float, color) = (of(Base::Int), of(Base::Float), of(Base::Color));
-    let (point, normal, closure) = (of(Base::Point), of(Base::Normal), of(Base::Closure));
+    let (point, normal) = (of(Base::Point), of(Base::Normal));
+    let (text, matrix) = (of(Base::Str), of(Base::Matrix));
+    let rows = [
+        (color, float, value(int), Choice::Chosen(1)),
+        (float, int, value(int), Choice::Chosen(1)),
+        (color, point, value(int), Choice::Ambiguous),
+        (color, text, value(float), Choice::Chosen(0)),
+        (text, matrix, value(int), Choice::NoCandidate),
+        (normal, color, value(point), Choice::Chosen(0)),
+        (color, float, value(point), Choice::NoCandidate),
+    ];
+    all_chosen(&rt, rt.alloc(), &rows)
+}
+
+#[test]
+fn the_literal_zero_as_a_closure(rt: HostRuntime) -> Result<(), Fail> {
+    let (closure, text, int) = (of(Base::Closure), of(Base::Str), of(Base::Int));
     let zero = Arg {
         kind: int,
         zero_literal: true,
         writable: false,
     };
     let rows = [
-        (color, float, value(int), Choice::Chosen(1)),
-        (float, int, value(int), Choice::Chosen(1)),
-        (color, point, value(int), Choice::Ambiguous),
-        (color, of(Base::Str), value(float), Choice::Chosen(0)),
-        (
-            of(Base::Str),
-            of(Base::Matrix),
-            value(int),
-            Choice::NoCandidate,
-        ),
-        (normal, color, value(point), Choice::Chosen(0)),
-        (color, float, value(point), Choice::NoCandidate),
-        (closure, of(Base::Str), zero, Choice::Chosen(0)),
-        (closure, color, zero, Choice::Ambiguous),
-        (closure, float, zero, Choice::Chosen(1)),
-        (closure, of(Base::Str), value(int), Choice::NoCandidate),
-        (
-            array_of(Base::Float, 2),
-            float,
-            value(array_of(Base::Float, 2)),
-            Choice::Chosen(0),
-        ),
-        (
-            array_of(Base::Float, 3),
-            float,
-            value(array_of(Base::Float, 2)),
-            Choice::NoCandidate,
-        ),
-        (
-            array_of(Base::Float, 2),
-            color,
-            value(array_of(Base::Int, 2)),
-            Choice::NoCandidate,
-        ),
-        (
-            Kind::Structure(4),
-            Kind::Structure(5),
-            value(Kind::Structure(5)),
-            Choice::Chosen(1),
-        ),
-        (
-            Kind::Structure(4),
-            float,
-            value(Kind::Void),
-            Choice::NoCandidate,
-        ),
+        (closure, text, zero, Choice::Chosen(0)),
+        (closure, of(Base::Color), zero, Choice::Ambiguous),
+        (closure, of(Base::Float), zero, Choice::Chosen(1)),
+        (closure, text, value(int), Choice::NoCandidate),
     ];
-    for (first, second, arg, wanted) in rows {
-        let answer = between(rt.alloc(), &[input(first)], &[input(second)], &[arg])?;
-        assert_eq!(rt; answer, wanted, "{first:?} or {second:?} for {arg:?}");
-    }
-    Ok(())
+    all_chosen(&rt, rt.alloc(), &rows)
+}
+
+#[test]
+fn arrays_and_structures_are_not_promoted(rt: HostRuntime) -> Result<(), Fail> {
+    let (float, color) = (of(Base::Float), of(Base::Color));
+    let (two, three) = (array_of(Base::Float, 2), array_of(Base::Float, 3));
+    let ints = array_of(Base::Int, 2);
+    let (fourth, fifth) = (Kind::Structure(4), Kind::Structure(5));
+    let rows = [
+        (two, float, value(two), Choice::Chosen(0)),
+        (three, float, value(two), Choice::NoCandidate),
+        (two, color, value(ints), Choice::NoCandidate),
+        (fourth, fifth, value(fifth), Choice::Chosen(1)),
+        (fourth, float, value(Kind::Void), Choice::NoCandidate),
+    ];
+    all_chosen(&rt, rt.alloc(), &rows)
 }
 
 #[test]

@@ -81,15 +81,33 @@ surface s(float given = 1, output float result = 0) {
     int is[3]; float fs[3], gs[3], hs[4]; color cs[2]; pair q, r; twin o;
     ";
 
-/// Each text stands for statements that have this verdict in a surface shader.
-fn all_bodies_have(
+/// One function for each type, each with a result of its own: where `kind` stands tells the type of its argument.
+const KINDS: &str =
+    "struct of_int { int a; }; struct of_float { int a; }; struct of_color { int a; };
+struct of_point { int a; }; struct of_vector { int a; }; struct of_normal { int a; };
+struct of_matrix { int a; }; struct of_string { int a; }; struct of_closure { int a; };
+struct of_floats { int a; }; struct pair { float a; color b; int c[2]; };
+of_int kind(int a) {} of_float kind(float a) {} of_color kind(color a) {}
+of_point kind(point a) {} of_vector kind(vector a) {} of_normal kind(normal a) {}
+of_matrix kind(matrix a) {} of_string kind(string a) {} of_closure kind(closure color a) {}
+of_floats kind(float a[3]) {}
+surface s() {
+    of_int an_int; of_float a_float; of_color a_color; of_point a_point; of_vector a_vector;
+    of_normal a_normal; of_matrix a_matrix; of_string a_string; of_closure a_closure; of_floats floats;
+    int i; float f; color c; point p; vector v; normal n; matrix m; string t; closure color k;
+    int is[3]; float fs[3], gs[3]; color cs[2]; normal ns[2]; pair q, r;
+    ";
+
+/// Each text stands for statements that have this verdict behind this beginning of a source.
+fn all_have_behind(
     rt: &impl Abort,
     alloc: Global,
+    beginning: &str,
     texts: &[&str],
     wanted: Verdict,
 ) -> Result<(), Fail> {
     for text in texts {
-        let source = format!(in alloc; "{BEFORE}{text} }}")?;
+        let source = format!(in alloc; "{beginning}{text} }}")?;
         assert!(rt; source.len() <= LIMIT);
         let found = verdict_of(alloc, source.as_str())?;
         assert_eq!(rt; found, wanted, "{text}");

@@ -1,5 +1,5 @@
 -- How often something went wrong, and what a call may do to such counts.
-use Rattle.std.specs.Prelude.{◌≡◌, ℕ, ◌+◌, ◌-◌, ◌^◌, ◌≤◌, min, Bool, IsTrue, IsErrOf}
+use Rattle.std.specs.Prelude.{◌≡◌, ℕ, ◌+◌, ◌-◌, ◌^◌, ◌≤◌, min, Bool, IsTrue, IsErrOf, OnOk}
 use Rattle.std.specs.declared.result.Result.{Result}
 use Rattle.osl_store.specs.declared.ReadError.{ReadError}
 use Rattle.osl_store.specs.declared.ReadError.TheVariants as read
@@ -41,18 +41,23 @@ pub record CountsRead {T : Type 0} (before now : Counts) (result : Result T Read
   pub absent : IsErrOf result read.Absent → Rose before.absents now.absents
   pub large : IsErrOf result read.TooLarge → Rose before.larges now.larges
   pub failed : IsErrOf result read.Failed → Rose before.faults now.faults
+  pub memory : IsErrOf result read.Memory → now ≡ before
+  pub ok : OnOk result (now ≡ before)
 
 -- what a write does to the counts
 pub record CountsWrite {T : Type 0} (before now : Counts) (result : Result T WriteError) : Type 0 where
   pub later : NoneFell before now
   pub faults : now.faults ≡ before.faults
   pub failed : IsErrOf result write.Failed → Rose before.write_faults now.write_faults
+  pub memory : IsErrOf result write.Memory → now ≡ before
+  pub ok : OnOk result (now ≡ before)
 
 -- what a put does to the count
 pub record CountsPut {T : Type 0} (before now : ℕ) (result : Result T PutError) : Type 0 where
   pub later : before ≤ now
   pub failed : IsErrOf result put.Fault → Rose before now
   pub memory : IsErrOf result put.Memory → now ≡ before
+  pub ok : OnOk result (now ≡ before)
 
 -- a store of which no call fails stays one, and counts no faults
 pub record StaysFaultless (old new : Bool) (before now : Counts) : Type 0 where

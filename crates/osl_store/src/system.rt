@@ -1,12 +1,12 @@
-ghost use Rattle.std.specs.Prelude.{None, false, ◌≡◌, ◌≤◌, List, ℕ, length, ◌++◌, OnOk};
+ghost use Rattle.std.specs.Prelude.{None, false, ◌≡◌, ◌≤◌, List, ℕ, length, ◌++◌, OnOk, IsErrOf, Some};
+ghost use Rattle.osl_store.specs.Files.{Takes, IsLonger};
+ghost use Rattle.std.specs.Io.{StartsWith};
+ghost use Rattle.std.specs.Option.{option_map};
 
 use crate::{PutError, ReadError, Sink, Store, WriteError};
 use std::fs;
 use std::io::{ErrorKind, Read, Write};
 use std::rt::Files;
-
-/// How many bytes are asked of the system at a time.
-const PIECE: usize = 4096;
 
 /// The files of the system. It tells no content: what they hold is outside what contracts can say.
 #[derive(Drop)]
@@ -58,57 +58,30 @@ impl<R: Files> Store for FileStore<'_, R> {
     }
 
     fn write(&mut self, name: &str, bytes: &[u8]) -> Result<(), WriteError> {
-        let result = match fs::create(self.rt, name) {
-            Ok(mut file) => put_all(&mut file, bytes),
-            Err(_) => Err(WriteError::Failed),
+        let written = match fs::create(self.rt, name) {
+            Ok(mut file) => file.write_all(bytes),
+            Err(error) => Err(error),
         };
-        if result.is_err() {
+        if written.is_err() {
             self.write_faults = self.write_faults.saturating_add(1);
+            return Err(WriteError::Failed);
         }
-        result
+        Ok(())
     }
 }
 
 /// Appends what is left of a file. After an error some of it may have been appended.
-fn take_all(file: &mut impl Read, limit: u32, into: &mut Vec<u8>) -> Result<(), ReadError>
-    ensures { (bytes : List ℕ) × (into.new.items ≡ into.old.items ++ bytes) × OnOk result (length bytes ≤ limit) }
+fn take_all<R: Read + Drop>(file: R, limit: u32, into: &mut Vec<u8>) -> Result<(), ReadError>
+    ensures ok { OnOk result (Takes (option_map Some (R.remaining file)) limit into.old.items into.new.items) }
+    ensures large { IsErrOf result ReadError.TooLarge → IsLonger (option_map Some (R.remaining file)) limit }
+    ensures appends { StartsWith into.new.items into.old.items }
 {
-    let mut left = limit as usize;
-    let mut piece = [0u8; PIECE];
-    for _ in 0..u64::MAX {
-        match file.read(&mut piece) {
-            Ok(0) => return Ok(()),
-            Ok(count) => {
-                if count > left {
-                    return Err(ReadError::TooLarge);
-                }
-                left -= count;
-                if into.extend_from_slice(&piece[..count]).is_err() {
-                    return Err(ReadError::Memory);
-                }
-            }
-            Err(error) if error.kind() == ErrorKind::Interrupted => {}
-            Err(_) => return Err(ReadError::Failed),
-        }
+    match file.take(u64::from(limit) + 1).read_to_end(into) {
+        Ok(count) if count > limit as usize => Err(ReadError::TooLarge),
+        Ok(_) => Ok(()),
+        Err(error) if error.kind() == ErrorKind::OutOfMemory => Err(ReadError::Memory),
+        Err(_) => Err(ReadError::Failed),
     }
-    Err(ReadError::Failed)
-}
-
-/// Writes all the bytes.
-fn put_all(file: &mut impl Write, bytes: &[u8]) -> Result<(), WriteError> {
-    let mut rest = bytes;
-    for _ in 0..u64::MAX {
-        if rest.is_empty() {
-            return Ok(());
-        }
-        match file.write(rest) {
-            Ok(0) => return Err(WriteError::Failed),
-            Ok(count) => rest = &rest[count..],
-            Err(error) if error.kind() == ErrorKind::Interrupted => {}
-            Err(_) => return Err(WriteError::Failed),
-        }
-    }
-    Err(WriteError::Failed)
 }
 
 /// Standard output. It tells no content.
@@ -134,27 +107,10 @@ impl<R: Print> Sink for StdSink<'_, R> {
 
     /// An output that takes nothing of a piece that is not empty is at fault.
     fn put(&mut self, bytes: &[u8]) -> Result<(), PutError> {
-        if print_all(self.rt, bytes) {
+        if self.rt.write_all(bytes).is_ok() {
             return Ok(());
         }
         self.faults = self.faults.saturating_add(1);
         Err(PutError::Fault)
     }
-}
-
-/// Prints all the bytes, and says whether they were taken.
-fn print_all(rt: &impl Print, bytes: &[u8]) -> bool {
-    let mut rest = bytes;
-    for _ in 0..u64::MAX {
-        if rest.is_empty() {
-            return true;
-        }
-        match rt.write_some(rest) {
-            Ok(0) => return false,
-            Ok(count) => rest = &rest[count..],
-            Err(error) if error.kind() == ErrorKind::Interrupted => {}
-            Err(_) => return false,
-        }
-    }
-    false
 }

@@ -5,6 +5,7 @@
 use osl_job::run_plain;
 use osl_store::{FileStore, StdSink};
 use std::env;
+use std::io::ErrorKind;
 use std::process::ExitCode;
 
 /// Memory was refused before the work began.
@@ -14,6 +15,7 @@ fn main(rt: HostRuntime) -> ExitCode {
     let alloc = rt.alloc();
     let words = match env::args(&rt) {
         Ok(args) => args.skip(1).collect::<Vec<String>>(alloc),
+        Err(error) if error.kind() == ErrorKind::OutOfMemory => return ExitCode::from(NO_MEMORY),
         // Words that are no text spell no job, as no words do.
         Err(_) => Ok(Vec::new(alloc)),
     };

@@ -1,7 +1,6 @@
 //! What `=` and `op=` take (OSL specification, section "Operators"): targets, promotions, operations.
 
-use super::calls::all_kinds_have;
-use super::{Verdict, all_bodies_have};
+use super::{BEFORE, KINDS, Verdict, all_have_behind};
 use std::test::Fail;
 
 /// Assignments that are taken.
@@ -197,12 +196,12 @@ static NOT_GIVEN: [&str; 6] = [
 
 #[test]
 fn assignments_take_promotions_and_writable_targets(rt: HostRuntime) -> Result<(), Fail> {
-    all_bodies_have(&rt, rt.alloc(), &TAKEN, Verdict::Typed)?;
-    all_bodies_have(&rt, rt.alloc(), &REFUSED, Verdict::Untyped)
+    all_have_behind(&rt, rt.alloc(), BEFORE, &TAKEN, Verdict::Typed)?;
+    all_have_behind(&rt, rt.alloc(), BEFORE, &REFUSED, Verdict::Untyped)
 }
 
 #[test]
 fn assignments_have_the_type_of_their_target(rt: HostRuntime) -> Result<(), Fail> {
-    all_kinds_have(&rt, rt.alloc(), &GIVEN, Verdict::Typed)?;
-    all_kinds_have(&rt, rt.alloc(), &NOT_GIVEN, Verdict::Untyped)
+    all_have_behind(&rt, rt.alloc(), KINDS, &GIVEN, Verdict::Typed)?;
+    all_have_behind(&rt, rt.alloc(), KINDS, &NOT_GIVEN, Verdict::Untyped)
 }

@@ -1,43 +1,7 @@
 //! Calls (OSL specification, sections "Functions" and "Standard library"): which function is meant, and what it takes.
 
-use super::{Verdict, all_bodies_have, all_have, verdict_of};
-use crate::LIMIT;
-use std::alloc::Global;
-use std::process::Abort;
+use super::{BEFORE, KINDS, Verdict, all_have, all_have_behind};
 use std::test::Fail;
-
-/// One function for each type, each with a result of its own: where `kind` stands tells the type of its argument.
-const KINDS: &str =
-    "struct of_int { int a; }; struct of_float { int a; }; struct of_color { int a; };
-struct of_point { int a; }; struct of_vector { int a; }; struct of_normal { int a; };
-struct of_matrix { int a; }; struct of_string { int a; }; struct of_closure { int a; };
-struct of_floats { int a; }; struct pair { float a; color b; int c[2]; };
-of_int kind(int a) {} of_float kind(float a) {} of_color kind(color a) {}
-of_point kind(point a) {} of_vector kind(vector a) {} of_normal kind(normal a) {}
-of_matrix kind(matrix a) {} of_string kind(string a) {} of_closure kind(closure color a) {}
-of_floats kind(float a[3]) {}
-surface s() {
-    of_int an_int; of_float a_float; of_color a_color; of_point a_point; of_vector a_vector;
-    of_normal a_normal; of_matrix a_matrix; of_string a_string; of_closure a_closure; of_floats floats;
-    int i; float f; color c; point p; vector v; normal n; matrix m; string t; closure color k;
-    int is[3]; float fs[3], gs[3]; color cs[2]; normal ns[2]; pair q, r;
-    ";
-
-/// Each text stands for statements that have this verdict where `kind` tells the type of its argument.
-pub(crate) fn all_kinds_have(
-    rt: &impl Abort,
-    alloc: Global,
-    texts: &[&str],
-    wanted: Verdict,
-) -> Result<(), Fail> {
-    for text in texts {
-        let source = format!(in alloc; "{KINDS}{text} }}")?;
-        assert!(rt; source.len() <= LIMIT);
-        let found = verdict_of(alloc, source.as_str())?;
-        assert_eq!(rt; found, wanted, "{text}");
-    }
-    Ok(())
-}
 
 /// Every built-in function, by each of its signatures and by promotions, with the type that it gives.
 static GIVEN: [&str; 30] = [
@@ -296,14 +260,14 @@ static NOT_CALLED: [&str; 53] = [
 
 #[test]
 fn calls_mean_built_in_functions(rt: HostRuntime) -> Result<(), Fail> {
-    all_bodies_have(&rt, rt.alloc(), &BUILT_IN, Verdict::Typed)?;
-    all_bodies_have(&rt, rt.alloc(), &NOT_BUILT_IN, Verdict::Untyped)
+    all_have_behind(&rt, rt.alloc(), BEFORE, &BUILT_IN, Verdict::Typed)?;
+    all_have_behind(&rt, rt.alloc(), BEFORE, &NOT_BUILT_IN, Verdict::Untyped)
 }
 
 #[test]
 fn built_in_functions_give_their_types(rt: HostRuntime) -> Result<(), Fail> {
-    all_kinds_have(&rt, rt.alloc(), &GIVEN, Verdict::Typed)?;
-    all_kinds_have(&rt, rt.alloc(), &NOT_GIVEN, Verdict::Untyped)
+    all_have_behind(&rt, rt.alloc(), KINDS, &GIVEN, Verdict::Typed)?;
+    all_have_behind(&rt, rt.alloc(), KINDS, &NOT_GIVEN, Verdict::Untyped)
 }
 
 #[test]

@@ -1,7 +1,6 @@
 //! Casts and constructors (OSL specification, section "Data types").
 
-use super::calls::all_kinds_have;
-use super::{Verdict, all_bodies_have};
+use super::{BEFORE, KINDS, Verdict, all_have_behind};
 use std::test::Fail;
 
 /// Casts and constructors that are taken.
@@ -114,12 +113,12 @@ static NOT_GIVEN: [&str; 7] = [
 
 #[test]
 fn constructors_take_numbers_and_triples(rt: HostRuntime) -> Result<(), Fail> {
-    all_bodies_have(&rt, rt.alloc(), &TAKEN, Verdict::Typed)?;
-    all_bodies_have(&rt, rt.alloc(), &REFUSED, Verdict::Untyped)
+    all_have_behind(&rt, rt.alloc(), BEFORE, &TAKEN, Verdict::Typed)?;
+    all_have_behind(&rt, rt.alloc(), BEFORE, &REFUSED, Verdict::Untyped)
 }
 
 #[test]
 fn constructors_give_their_types(rt: HostRuntime) -> Result<(), Fail> {
-    all_kinds_have(&rt, rt.alloc(), &GIVEN, Verdict::Typed)?;
-    all_kinds_have(&rt, rt.alloc(), &NOT_GIVEN, Verdict::Untyped)
+    all_have_behind(&rt, rt.alloc(), KINDS, &GIVEN, Verdict::Typed)?;
+    all_have_behind(&rt, rt.alloc(), KINDS, &NOT_GIVEN, Verdict::Untyped)
 }

@@ -1,6 +1,6 @@
 //! Declarations, lists in braces and scopes (OSL specification, sections "Declarations" and "Scoping").
 
-use super::{Verdict, all_bodies_have};
+use super::{BEFORE, Verdict, all_have_behind};
 use std::test::Fail;
 
 /// Declarations that are taken.
@@ -120,6 +120,6 @@ static REFUSED: [&str; 54] = [
 
 #[test]
 fn declarations_stand_in_their_blocks(rt: HostRuntime) -> Result<(), Fail> {
-    all_bodies_have(&rt, rt.alloc(), &TAKEN, Verdict::Typed)?;
-    all_bodies_have(&rt, rt.alloc(), &REFUSED, Verdict::Untyped)
+    all_have_behind(&rt, rt.alloc(), BEFORE, &TAKEN, Verdict::Typed)?;
+    all_have_behind(&rt, rt.alloc(), BEFORE, &REFUSED, Verdict::Untyped)
 }

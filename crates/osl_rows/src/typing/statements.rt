@@ -1,6 +1,6 @@
 //! Statements (OSL specification, section "Statements").
 
-use super::{Verdict, all_bodies_have};
+use super::{BEFORE, Verdict, all_have_behind};
 use std::test::Fail;
 
 /// Statements that are taken.
@@ -78,6 +78,6 @@ static REFUSED: [&str; 37] = [
 
 #[test]
 fn statements_stand_where_they_may(rt: HostRuntime) -> Result<(), Fail> {
-    all_bodies_have(&rt, rt.alloc(), &TAKEN, Verdict::Typed)?;
-    all_bodies_have(&rt, rt.alloc(), &REFUSED, Verdict::Untyped)
+    all_have_behind(&rt, rt.alloc(), BEFORE, &TAKEN, Verdict::Typed)?;
+    all_have_behind(&rt, rt.alloc(), BEFORE, &REFUSED, Verdict::Untyped)
 }
