@@ -1,7 +1,7 @@
 // Slots that are made of values, and slots whose values are kept as a whole.
 
 ghost use Rattle.std.specs.Prelude.{◌≡◌, ◌||◌, IsTrue, IfOk, IfSome, None, length};
-ghost use Rattle.osl_value.specs.AnyValue.{Of, with_numbers, with_text};
+ghost use Rattle.osl_value.specs.AnyValue.{Of, with_numbers, with_text, zero_value};
 ghost use Rattle.osl_value.specs.Laws.{int_value};
 ghost use Rattle.osl_value.specs.Types.{only, is_triple, same_base, number_count};
 ghost use Rattle.osl_apply.specs.Slots.{seen, is_kept};
@@ -28,6 +28,25 @@ fn small<'a>(value: &Value) -> Option<Slot<'a>>
         Base::Point => Some(Slot::Triple(Kind::Point, triple_of(value))),
         Base::Vector => Some(Slot::Triple(Kind::Vector, triple_of(value))),
         Base::Normal => Some(Slot::Triple(Kind::Normal, triple_of(value))),
+        Base::Matrix | Base::Str | Base::Closure => None,
+    }
+}
+
+/// The zero of a type that is one int, one float or one triple.
+fn small_zero<'a>(ty: Ty) -> Option<Slot<'a>>
+    ensures { IfSome result (λ slot. seen slot ≡ zero_value ty) }
+{
+    if ty.len != 0 {
+        return None;
+    }
+    let zero = Fx::from_units(0);
+    match ty.base {
+        Base::Int => Some(Slot::Int(0)),
+        Base::Float => Some(Slot::Float(zero)),
+        Base::Color => Some(Slot::Triple(Kind::Color, [zero; 3])),
+        Base::Point => Some(Slot::Triple(Kind::Point, [zero; 3])),
+        Base::Vector => Some(Slot::Triple(Kind::Vector, [zero; 3])),
+        Base::Normal => Some(Slot::Triple(Kind::Normal, [zero; 3])),
         Base::Matrix | Base::Str | Base::Closure => None,
     }
 }
@@ -63,17 +82,14 @@ impl<'a> Slot<'a> {
         requires { ty.len ≤ longest_array }
         ensures { IfOk result (λ slot. seen slot ≡ zero_value ty) }
     {
+        if let Some(slot) = small_zero(ty) {
+            return Ok(slot);
+        }
         if let Base::Closure = ty.base {
             return Ok(Slot::Closure(empty()));
         }
-        let value = Value::zero(alloc, ty)?;
-        match small(&value) {
-            Some(slot) => Ok(slot),
-            None => {
-                let boxed = Box::new(alloc, value)?;
-                Ok(Slot::Whole(boxed))
-            }
-        }
+        let boxed = Box::new(alloc, Value::zero(alloc, ty)?)?;
+        Ok(Slot::Whole(boxed))
     }
 
     /// Keeps the value as a whole, where it is no closure.

@@ -10,3 +10,4 @@ pub mod Outcomes
 pub mod Reading
 pub mod Sections
 pub mod Starting
+pub mod Whole

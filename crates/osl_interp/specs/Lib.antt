@@ -5,3 +5,4 @@ pub mod Layers
 pub mod Meaning
 pub mod Ready
 pub mod Starts
+pub mod Whole

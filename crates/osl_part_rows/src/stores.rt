@@ -82,6 +82,27 @@ fn files_of_the_system(rt: HostRuntime) -> Result<(), Fail> {
     Ok(())
 }
 
+/// A file that takes several calls of the system, and is longer than what is read of it at once.
+#[test]
+fn a_long_file_of_the_system(rt: HostRuntime) -> Result<(), Fail> {
+    let alloc = rt.alloc();
+    let mut bytes = Vec::new(alloc);
+    for k in 0..100_000u32 {
+        bytes.push((k % 251) as u8)?;
+    }
+    let mut store = FileStore::new(&rt);
+    let mut into = Vec::from_slice(alloc, b"<")?;
+    let name = "osl_store_long_test_file";
+    assert_eq!(rt; store.write(name, bytes.as_slice()), Ok(()));
+    assert_eq!(rt; store.read(name, 99_999, &mut into), Err(ReadError::TooLarge));
+    assert_eq!(rt; into.as_slice(), b"<".as_slice());
+    assert_eq!(rt; store.read(name, 100_000, &mut into), Ok(()));
+    assert_eq!(rt; into.len(), 100_001);
+    assert!(rt; &into[1..] == bytes.as_slice());
+    std::fs::remove_file(&rt, name)?;
+    Ok(())
+}
+
 #[test]
 fn standard_output(rt: HostRuntime) {
     let mut sink = StdSink::new(&rt);

@@ -17,7 +17,7 @@ use Rattle.oso_code.specs.declared.symbol.Class.{Class}
 use Rattle.oso_code.specs.declared.symbol.Class.TheVariants.{Param, Oparam, Const}
 use Rattle.oso_code.specs.declared.symbol.Symbol.{Symbol}
 use Rattle.osl_layer.specs.Layer.{From, Default, Inputs}
-use Rattle.oso_code.specs.CodeRun.{code_run}
+use Rattle.oso_code.specs.CodeRun.{code_run, ops_run}
 use Rattle.oso_code.specs.Run.{put, loop, run}
 use Rattle.oso_code.specs.Steps.{step_of}
 use Rattle.oso_code.specs.Valid.{first_flaw}
@@ -109,3 +109,12 @@ never_ends = refl
 one_turn : (code_run (shader (op O.DoWhile (2 ∷ []) (1 ∷ 1 ∷ []) ∷ [])) defaults origin 1).given ≡ Some (record { outputs = None ∷ Some (Of (float_of (pos 0))) ∷ []; closure = [] })
 unfolding code_run run loop put step_of apply
 one_turn = refl
+
+-- ops are counted once each time that the run comes to them, whatever the turns
+one_op : ops_run one defaults origin 1 ≡ 1
+unfolding ops_run run loop put step_of apply
+one_op = refl
+
+two_ops : ops_run (shader (op O.DoWhile (2 ∷ []) (1 ∷ 2 ∷ []) ∷ op O.Assign (1 ∷ 0 ∷ []) [] ∷ [])) defaults origin 1 ≡ 2
+unfolding ops_run run loop put step_of apply
+two_ops = refl

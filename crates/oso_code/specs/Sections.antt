@@ -1,5 +1,5 @@
 -- How the sections of code follow each other: those of parameters, in the parameters' order, and then that of the body (oso text, sections).
-use Rattle.std.specs.Prelude.{ℕ, ◌≡◌, ◌<◌, ◌≤◌, nat_lt, nat_le, Bool, true, false, ◌&&◌, ◌==◌, List, [], ◌∷◌, ◌++◌, length, Option, Some, None, slice_get}
+use Rattle.std.specs.Prelude.{ℕ, ◌≡◌, ◌<◌, ◌≤◌, nat_lt, nat_le, Bool, true, false, ◌&&◌, ◌==◌, List, [], ◌∷◌, ◌++◌, length, map, Option, Some, None, slice_get, unwrap_or}
 use Rattle.std.specs.List.{list_all}
 use Rattle.osl_value.specs.Plain.{Plain}
 use Rattle.osl_value.specs.Numbers.{is_zero}
@@ -15,9 +15,13 @@ abbrev pub is_zeros : Option Plain → Bool
 is_zeros None = true
 is_zeros (Some v) = list_all is_zero v.nums && list_all is_empty v.texts
 
+-- there may be a section of a parameter whose values are zeros
+abbrev pub may_own : Symbol → Bool
+may_own symbol = is_parameter symbol.class && is_zeros symbol.value
+
 abbrev pub may_have_section : Option Symbol → Bool
 may_have_section None = false
-may_have_section (Some symbol) = is_parameter symbol.class && is_zeros symbol.value
+may_have_section (Some symbol) = may_own symbol
 
 -- the body, or a parameter whose values are zeros
 abbrev pub owner_fits : List Symbol → Option ℕ → Bool
@@ -29,6 +33,15 @@ abbrev pub owner_follows : Option ℕ → Option ℕ → Bool
 owner_follows None owner = false
 owner_follows (Some p) None = true
 owner_follows (Some p) (Some q) = nat_lt p q
+
+-- of each symbol, whether there may be a section of it
+abbrev pub owners_of : List Symbol → List Bool
+owners_of symbols = map may_own symbols
+
+-- whether there may be a section of the body, or of a symbol by its number
+abbrev pub may_stand : List Bool → Option ℕ → Bool
+may_stand owners None = true
+may_stand owners (Some p) = unwrap_or (slice_get owners p) false
 
 abbrev pub section_fits : Raw → Section → Bool
 section_fits raw section =

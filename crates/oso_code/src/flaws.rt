@@ -71,9 +71,9 @@ fn first_symbol_fault(alloc: Global, raw: &Raw) -> Result<Option<u32>, Memory>
 }
 
 /// The first fault of ops and of sections.
-fn first_op_fault(raw: &Raw) -> Option<u32>
+fn first_op_fault(alloc: Global, raw: &Raw) -> Result<Option<u32>, Memory>
     requires { length raw.now.ops < 2 ^ 32 }
-    ensures { result ≡ least (op_faults raw.now) }
+    ensures { IfOk result (λ place. place ≡ least (op_faults raw.now)) }
 {
     let symbols = raw.symbols.as_slice();
     let op = first_wrong_op(
@@ -82,7 +82,8 @@ fn first_op_fault(raw: &Raw) -> Option<u32>
         raw.sections.as_slice(),
         raw.ops.as_slice(),
     );
-    sooner_of(op, first_wrong_section(raw))
+    let section = first_wrong_section(alloc, raw)?;
+    Ok(sooner_of(op, section))
 }
 
 /// Whether the code is within its limits, where `deep` is the first op whose ranges nest too deep.
@@ -101,7 +102,7 @@ pub fn first_flaw(alloc: Global, raw: &Raw) -> Result<Option<(FlawKind, u32)>, M
     if let Some(at) = first_symbol_fault(alloc, raw)? {
         return Ok(Some((FlawKind::Symbol, at)));
     }
-    if let Some(at) = first_op_fault(raw) {
+    if let Some(at) = first_op_fault(alloc, raw)? {
         return Ok(Some((FlawKind::Op, at)));
     }
     let faults = range_faults(alloc, raw.sections.as_slice(), raw.ops.as_slice())?;

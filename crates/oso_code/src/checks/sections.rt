@@ -1,10 +1,10 @@
 //! How the sections of code follow each other.
 
-ghost use Rattle.std.specs.Prelude.{◌≡◌, ◌≤◌, ◌<◌, ◌^◌, ◌&&◌, ◌==◌, ◌++◌, nat_le, length, vec_len, slice_get, IsTrue};
+ghost use Rattle.std.specs.Prelude.{◌≡◌, ◌≤◌, ◌<◌, ◌^◌, ◌&&◌, ◌==◌, ◌++◌, nat_le, length, vec_len, slice_get, IsTrue, IfOk};
 ghost use Rattle.std.specs.List.{list_all};
 ghost use Rattle.osl_value.specs.Numbers.{is_zero};
 ghost use Rattle.oso_code.specs.Faults.{least, sooner, unless};
-ghost use Rattle.oso_code.specs.Sections.{is_zeros, may_have_section, owner_fits, owner_follows, section_fits, follows, is_body, later_faults, end_faults, section_faults, EndBefore};
+ghost use Rattle.oso_code.specs.Sections.{is_zeros, may_own, owner_fits, owners_of, may_stand, owner_follows, section_fits, follows, is_body, later_faults, end_faults, section_faults, EndBefore};
 ghost use Rattle.oso_code.specs.Ops.{section_at, owner_of};
 ghost use Rattle.oso_code.specs.Symbols.{is_empty};
 
@@ -12,6 +12,7 @@ use crate::op::Section;
 use crate::raw::Raw;
 use crate::symbol::Symbol;
 use osl_value::{Text, Value};
+use std::alloc::{AllocError, Global};
 
 fn are_zero(nums: &[i64]) -> bool
     ensures { result ≡ list_all is_zero nums.now }
@@ -35,7 +36,14 @@ fn is_zeros(value: &Option<Value>) -> bool
     }
 }
 
-/// Whether there may be a section of the body, or of this parameter: it is one, and its values are zeros.
+/// Whether there may be a section of this symbol: it is a parameter, and its values are zeros.
+fn may_own(symbol: &Symbol) -> bool
+    ensures { result ≡ may_own symbol.now }
+{
+    symbol.class.is_parameter() && is_zeros(&symbol.value)
+}
+
+/// Whether there may be a section of the body, or of this parameter.
 pub fn owner_fits(symbols: &[Symbol], owner: Option<u32>) -> bool
     ensures { result ≡ owner_fits symbols.now owner }
 {
@@ -43,8 +51,25 @@ pub fn owner_fits(symbols: &[Symbol], owner: Option<u32>) -> bool
         return true;
     };
     match symbols.get(owner as usize) {
-        Some(symbol) => symbol.class.is_parameter() && is_zeros(&symbol.value),
+        Some(symbol) => may_own(symbol),
         None => false,
+    }
+}
+
+/// Of each symbol, whether there may be a section of it.
+fn owners(alloc: Global, symbols: &[Symbol]) -> Result<Vec<bool>, AllocError>
+    ensures { IfOk result (λ owners. owners.items ≡ owners_of symbols.now) }
+{
+    symbols.iter().map(|symbol| may_own(symbol)).collect(alloc)
+}
+
+/// Whether there may be a section of the body, or of the symbol of this number.
+fn may_stand(owners: &[bool], owner: Option<u32>) -> bool
+    ensures { result ≡ may_stand owners.now owner }
+{
+    match owner {
+        Some(owner) => owners.get(owner as usize).copied().unwrap_or(false),
+        None => true,
     }
 }
 
@@ -59,10 +84,11 @@ pub fn owner_follows(before: Option<u32>, owner: Option<u32>) -> bool
     }
 }
 
-fn section_fits(raw: &Raw, section: Section) -> bool
+fn section_fits(raw: &Raw, owners: &[bool], section: Section) -> bool
+    requires { owners.now ≡ owners_of raw.now.symbols }
     ensures { result ≡ section_fits raw.now section }
 {
-    owner_fits(raw.symbols.as_slice(), section.param)
+    may_stand(owners, section.param)
         && section.start <= section.end
         && section.end as usize <= raw.ops.len()
 }
@@ -101,31 +127,35 @@ fn or_fault(found: Option<u32>, fits: bool, place: u32) -> Option<u32>
 }
 
 /// The least place at which a section is at fault, or at which the last one is no body that ends where the ops end.
-pub fn first_wrong_section(raw: &Raw) -> Option<u32>
-    ensures { result ≡ least (section_faults raw.now raw.now.sections) }
+pub fn first_wrong_section(alloc: Global, raw: &Raw) -> Result<Option<u32>, AllocError>
+    ensures { IfOk result (λ place. place ≡ least (section_faults raw.now raw.now.sections)) }
 {
     match raw.sections.as_slice() {
         [first, others @ ..] => {
-            let fits = first.start == 0 && section_fits(raw, *first);
-            first_wrong_behind(raw, or_fault(None, fits, first.start), *first, others)
+            let owners = owners(alloc, raw.symbols.as_slice())?;
+            let fits = first.start == 0 && section_fits(raw, owners.as_slice(), *first);
+            let found = or_fault(None, fits, first.start);
+            Ok(first_wrong_behind(raw, owners.as_slice(), found, *first, others))
         }
-        [] => Some(0),
+        [] => Ok(Some(0)),
     }
 }
 
 /// The same of the sections behind one, with what is found so far.
 fn first_wrong_behind(
     raw: &Raw,
+    owners: &[bool],
     found: Option<u32>,
     first: Section,
     others: &[Section],
 ) -> Option<u32>
+    requires { owners.now ≡ owners_of raw.now.symbols }
     ensures { result ≡ sooner found (least (later_faults raw.now first others.now ++ end_faults raw.now first others.now)) }
 {
     let mut found = found;
     let mut before = first;
     for section in others {
-        let fits = follows(before, *section) && section_fits(raw, *section);
+        let fits = follows(before, *section) && section_fits(raw, owners, *section);
         found = or_fault(found, fits, section.start);
         before = *section;
     }

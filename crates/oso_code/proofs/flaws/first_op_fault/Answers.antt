@@ -10,5 +10,5 @@ returns c =
     let raw = c.args.raw.now in
     let op = c.first_wrong_op-op.ensures ∙ (λ i. least (misfits (op_in_fits raw.kind (c.as_slice-symbols.ensures i) (c.as_slice.ensures i)) 0 (c.as_slice-2.ensures i))) in
     c.sooner_of.ensures
-    ∙ (λ i. sooner (op i) (c.first_wrong_section.ensures i))
+    ∙ (λ i. sooner (op i) (c.in_ok-section.ensures i))
     ∙ sym (least_append (misfits (op_at_fits raw) 0 raw.ops) (section_faults raw raw.sections))
