@@ -11,9 +11,9 @@ mod decimals;
 #[cfg(test)]
 mod demo;
 #[cfg(test)]
-mod fans;
+mod execution;
 #[cfg(test)]
-mod numbers;
+mod fans;
 #[cfg(test)]
 mod operations;
 #[cfg(test)]

@@ -1,97 +1,114 @@
-//! Operations on slots, through `execute`. The expected values were worked out by hand.
+//! Operations on numbers. The expected numbers were computed by whole-number arithmetic outside the program.
 
-ghost use Rattle.std.specs.Prelude.{◌≡◌, false, IsTrue, [], ◌∷◌};
-ghost use Rattle.osl_value.specs.Apply.{is_allowed};
-ghost use Rattle.osl_value.specs.Table.{updates};
-ghost use Rattle.osl_value.specs.Types.{only};
+use osl_ops::{geometric, ints, one, three, two};
+use osl_value::{Fx, OpName};
 
-use bumpalo::Bump;
-use osl_apply::{Kind, Slot, execute};
-use osl_closure::{empty, flatten};
-use osl_value::{Base, Fx, Memory, OpName};
-use std::alloc::Global;
-use std::test::Fail;
-
-/// A float of so many tenths.
-fn tenths(n: i64) -> Fx {
-    Fx::from_units(n.saturating_mul(100_000_000))
-}
-
-/// What an operation gives on two ints.
-fn on_ints(alloc: Global, arena: &Bump, name: OpName, a: i32, b: i32) -> Result<i32, Memory>
-    requires takes { IsTrue (is_allowed name (only Base.Int) (only Base.Int ∷ only Base.Int ∷ [])) }
-    requires reads { updates name ≡ false }
-{
-    let mut slots = [Slot::Int(0), Slot::Int(a), Slot::Int(b)];
-    execute(alloc, arena, &mut slots, name, 0, &[1, 2])?;
-    Ok(slots[0].as_int().unwrap_or(-77))
-}
-
-/// What a comparison gives on two floats.
-fn on_floats(alloc: Global, arena: &Bump, name: OpName, a: i64, b: i64) -> Result<i32, Memory>
-    requires takes { IsTrue (is_allowed name (only Base.Int) (only Base.Float ∷ only Base.Float ∷ [])) }
-    requires reads { updates name ≡ false }
-{
-    let mut slots = [Slot::Int(0), Slot::Float(tenths(a)), Slot::Float(tenths(b))];
-    execute(alloc, arena, &mut slots, name, 0, &[1, 2])?;
-    Ok(slots[0].as_int().unwrap_or(-77))
-}
-
-/// The units that an operation gives on two vectors.
-fn on_vectors(
-    alloc: Global,
-    arena: &Bump,
-    name: OpName,
-    a: [i64; 3],
-    b: [i64; 3],
-) -> Result<i64, Memory>
-    requires takes { IsTrue (is_allowed name (only Base.Float) (only Base.Vector ∷ only Base.Vector ∷ [])) }
-    requires reads { updates name ≡ false }
-{
-    let mut slots = [
-        Slot::Float(Fx::ZERO),
-        Slot::Triple(Kind::Vector, a.map(tenths)),
-        Slot::Triple(Kind::Vector, b.map(tenths)),
+#[test]
+fn arithmetic_on_ints(rt: HostRuntime) {
+    let found = [
+        ints(OpName::Add, i32::MAX, 1),
+        ints(OpName::Sub, i32::MIN, 1),
+        ints(OpName::Mul, 65_537, 65_537),
+        ints(OpName::Div, i32::MIN, -1),
+        ints(OpName::Div, -7, 2),
+        ints(OpName::Div, 7, 0),
+        ints(OpName::IRem, -7, 2),
+        ints(OpName::IRem, 7, 0),
+        ints(OpName::IRem, i32::MIN, -1),
+        ints(OpName::Neg, -3, 0),
+        ints(OpName::Abs, -3, 0),
+        ints(OpName::Abs, i32::MIN, 0),
     ];
-    execute(alloc, arena, &mut slots, name, 0, &[1, 2])?;
-    match &slots[0] {
-        Slot::Float(x) => Ok(x.units()),
-        _ => Ok(-77),
-    }
-}
-
-/// How many parts the closure has that an operation gives on a normal.
-fn on_normal(alloc: Global, arena: &Bump, name: OpName) -> Result<usize, Memory>
-    requires takes { IsTrue (is_allowed name (only Base.Closure) (only Base.Normal ∷ [])) }
-    requires reads { updates name ≡ false }
-{
-    let mut slots = [
-        Slot::Closure(empty()),
-        Slot::Triple(Kind::Normal, [Fx::ONE; 3]),
-    ];
-    execute(alloc, arena, &mut slots, name, 0, &[1])?;
-    match &slots[0] {
-        Slot::Closure(node) => {
-            let parts = flatten(alloc, node.share())?;
-            Ok(parts.as_slice().len())
-        }
-        _ => Ok(77),
-    }
+    assert_eq!(rt;
+        found,
+        [
+            i32::MIN,
+            i32::MAX,
+            131_073,
+            i32::MIN,
+            -3,
+            0,
+            -1,
+            0,
+            0,
+            3,
+            3,
+            i32::MIN
+        ]
+    );
 }
 
 #[test]
-#[tactic(auto, unfolding(osl_value::specs::Apply::is_allowed))]
-fn each_kind_of_operation(rt: HostRuntime) -> Result<(), Fail> {
-    let alloc = rt.alloc();
-    let arena = Bump::new(alloc);
-    assert_eq!(rt; on_ints(alloc, &arena, OpName::Add, i32::MAX, 1)?, i32::MIN);
-    assert_eq!(rt; on_ints(alloc, &arena, OpName::IRem, -7, 2)?, -1);
-    assert_eq!(rt; on_floats(alloc, &arena, OpName::Lt, -5, 5)?, 1);
-    assert_eq!(rt; on_floats(alloc, &arena, OpName::Neq, 5, 5)?, 0);
-    assert_eq!(rt;
-        on_vectors(alloc, &arena, OpName::Dot, [10, 20, 30], [5, -10, 20])?,
-        4_500_000_000
-    );
-    assert_eq!(rt; on_normal(alloc, &arena, OpName::ClDiffuse)?, 1);
-    Ok(())
+fn bits_of_ints(rt: HostRuntime) {
+    let found = [
+        ints(OpName::Compl, 5, 0),
+        ints(OpName::BitAnd, -12, 6),
+        ints(OpName::BitOr, -12, 6),
+        ints(OpName::Xor, -12, 6),
+        ints(OpName::Shl, -7, 33),
+        ints(OpName::Shl, 1, 31),
+        ints(OpName::Shr, -7, 33),
+        ints(OpName::Shr, -7, -31),
+    ];
+    assert_eq!(rt; found, [-6, 4, -10, -14, -14, i32::MIN, -4, -4]);
+}
+
+#[test]
+fn comparisons_of_ints(rt: HostRuntime) {
+    let found = [
+        ints(OpName::Not, 0, 0),
+        ints(OpName::Not, 7, 0),
+        ints(OpName::Eq, 3, 3),
+        ints(OpName::Neq, 3, 3),
+        ints(OpName::Lt, -1, 0),
+        ints(OpName::Gt, -1, 0),
+        ints(OpName::Le, 0, 0),
+        ints(OpName::Ge, -1, 0),
+        ints(OpName::Min, -3, 2),
+        ints(OpName::Max, -3, 2),
+    ];
+    assert_eq!(rt; found, [1, 0, 1, 0, 1, 0, 1, 0, -3, 2]);
+}
+
+/// Three floats of so many tenths.
+fn tenths(a: i64, b: i64, c: i64) -> [Fx; 3] {
+    [a, b, c].map(|n: i64| Fx::from_units(n.saturating_mul(100_000_000)))
+}
+
+#[test]
+fn componentwise(rt: HostRuntime) {
+    let triple = tenths(-15, 5, 20);
+    let float = [Fx::from_units(500_000_000)];
+    let mut out = [Fx::ZERO; 3];
+    one(OpName::Round, &triple, &mut out);
+    assert!(rt; out == tenths(-20, 10, 20));
+    two(OpName::Mod, &triple, &float, &mut out);
+    assert!(rt; out == tenths(0, 0, 0));
+    two(OpName::Step, &float, &triple, &mut out);
+    assert!(rt; out == tenths(0, 10, 10));
+    three(OpName::Clamp, &triple, &float, &[Fx::ONE], &mut out);
+    assert!(rt; out == tenths(5, 5, 10));
+    let mut alone = [Fx::ONE];
+    three(OpName::Mix, &float, &[Fx::ONE], &float, &mut alone);
+    assert!(rt; alone == [Fx::from_units(750_000_000)]);
+    one(OpName::Neg, &float, &mut out);
+    assert!(rt; out == tenths(-5, -5, -5));
+}
+
+#[test]
+fn geometry(rt: HostRuntime) {
+    let a = tenths(30, -40, 120);
+    let b = tenths(5, 20, -10);
+    let mut float = [Fx::ZERO];
+    geometric(OpName::Dot, &a, &b, &mut float);
+    assert!(rt; float == [Fx::from_units(-18_500_000_000)]);
+    geometric(OpName::Length, &a, &b, &mut float);
+    assert!(rt; float == [Fx::from_units(13_000_000_000)]);
+    geometric(OpName::Distance, &a, &b, &mut float);
+    assert!(rt; float == [Fx::from_units(14_534_441_853)]);
+    let mut triple = [Fx::ZERO; 3];
+    geometric(OpName::Cross, &a, &b, &mut triple);
+    assert!(rt; triple == tenths(-200, 90, 80));
+    geometric(OpName::Normalize, &a, &b, &mut triple);
+    assert!(rt; triple[0].units() == 230_769_230 && triple[2].units() == 923_076_923);
 }

@@ -109,6 +109,44 @@ fn arrays_and_structures_are_not_promoted(rt: HostRuntime) -> Result<(), Fail> {
     all_chosen(&rt, rt.alloc(), &rows)
 }
 
+/// Sums that are alike, or differ by one, only where a spatial type costs 1, a float 1, and a triple of a float 2 and of an int 3.
+#[test]
+fn costs_of_promotions(rt: HostRuntime) -> Result<(), Fail> {
+    let (int, float, color) = (of(Base::Int), of(Base::Float), of(Base::Color));
+    let (point, vector) = (of(Base::Point), of(Base::Vector));
+    let (i, f, c) = (input(int), input(float), input(color));
+    let rows: [(&[Formal], &[Formal], &[Kind], Choice); 4] = [
+        (&[c, i], &[f, c], &[float, int], Choice::Chosen(0)),
+        (
+            &[input(point), i],
+            &[input(vector), f],
+            &[vector, int],
+            Choice::Ambiguous,
+        ),
+        (
+            &[c, i, i],
+            &[f, f, f],
+            &[float, int, int],
+            Choice::Ambiguous,
+        ),
+        (
+            &[c, i, i, i],
+            &[i, f, f, f],
+            &[int, int, int, int],
+            Choice::Ambiguous,
+        ),
+    ];
+    for (first, second, kinds, wanted) in rows {
+        let mut args = Vec::new(rt.alloc());
+        for kind in kinds {
+            args.push(value(*kind))?;
+        }
+        let answer = between(rt.alloc(), first, second, args.as_slice())?;
+        assert_eq!(rt; answer, wanted, "{kinds:?}");
+    }
+    Ok(())
+}
+
 #[test]
 fn costs_are_added(rt: HostRuntime) -> Result<(), Fail> {
     let alloc = rt.alloc();

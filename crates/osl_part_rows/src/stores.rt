@@ -94,7 +94,10 @@ fn a_long_file_of_the_system(rt: HostRuntime) -> Result<(), Fail> {
     let mut into = Vec::from_slice(alloc, b"<")?;
     let name = "osl_store_long_test_file";
     assert_eq!(rt; store.write(name, bytes.as_slice()), Ok(()));
-    assert_eq!(rt; store.read(name, 99_999, &mut into), Err(ReadError::TooLarge));
+    assert_eq!(rt;
+        store.read(name, 99_999, &mut into),
+        Err(ReadError::TooLarge)
+    );
     assert_eq!(rt; into.as_slice(), b"<".as_slice());
     assert_eq!(rt; store.read(name, 100_000, &mut into), Ok(()));
     assert_eq!(rt; into.len(), 100_001);

@@ -67,6 +67,10 @@ fn words_that_ask_for_a_job(rt: HostRuntime) -> Result<(), Fail> {
             "shade g p none 4 65536 false false false",
         ),
         (
+            "shade g p --workers +4 --edits=",
+            "shade g p  4 65536 false false false",
+        ),
+        (
             "shade g p --serial",
             "shade g p none 4 65536 false true false",
         ),
@@ -82,7 +86,9 @@ fn words_that_ask_for_a_job(rt: HostRuntime) -> Result<(), Fail> {
         ("oslc a.osl a.oso", "oslc a.osl a.oso"),
         ("demo 1", "demo 1"),
         ("demo 256", "demo 256"),
+        ("demo-text 1", "demo-text 1"),
         ("demo-text 7", "demo-text 7"),
+        ("demo-text 256", "demo-text 256"),
     ];
     for (line, job) in rows {
         let answer = answer(rt.alloc(), line)?;
@@ -92,7 +98,7 @@ fn words_that_ask_for_a_job(rt: HostRuntime) -> Result<(), Fail> {
 }
 
 // Command lines that ask for no job.
-static NO_JOBS: [&str; 38] = [
+static NO_JOBS: [&str; 43] = [
     "",
     "shade",
     "shade g",
@@ -111,6 +117,11 @@ static NO_JOBS: [&str; 38] = [
     "shade g p --serial --settle",
     "shade g p --serial --workers 4",
     "shade g p --help",
+    "shade g p -h",
+    "shade g p --version",
+    "shade --version",
+    "shade g p --settle=true",
+    "shade g p --edits e --edits f",
     "shade -- g --serial",
     "shade -- --serial p",
     "shade g p --edits=--serial",
