@@ -350,8 +350,18 @@ fn faults(rt: HostRuntime) -> Result<(), Fail> {
         (0, 1, 8, ""),
         (0, 2, 8, "freeze 0\n"),
         (0, 3, 8, "freeze 0\npoint 0 worker 0 after 0\n"),
-        (0, 4, 8, "freeze 0\npoint 0 worker 0 after 0\n out a.r 2.5\n"),
-        (0, 5, 0, "freeze 0\npoint 0 worker 0 after 0\n out a.r 2.5\nend\n"),
+        (
+            0,
+            4,
+            8,
+            "freeze 0\npoint 0 worker 0 after 0\n out a.r 2.5\n",
+        ),
+        (
+            0,
+            5,
+            0,
+            "freeze 0\npoint 0 worker 0 after 0\n out a.r 2.5\nend\n",
+        ),
         (2, 1, 8, ""),
         (2, 2, 7, "add1.osl: read fault\n"),
     ];

@@ -24,7 +24,7 @@ fn sizes_of(alloc: Global, source: &str) -> Result<Option<Sizes>, Memory>
 /// A source, its size, its slots, and the most functions that are open at once in it.
 type Row = (&'static str, u32, u32, u32);
 
-static ROWS: [Row; 18] = [
+static ROWS: [Row; 26] = [
     ("shader s() { }", 64, 64, 0),
     ("shader s() { ; { } }", 64 + 8, 64 + 2, 0),
     // A parameter, the promotion, and the int.
@@ -113,6 +113,39 @@ static ROWS: [Row; 18] = [
         64,
         0,
     ),
+    // A structure passed has 8 for each leaf, and its slots twice; the body is a return, a field and its variable.
+    (
+        "struct p { float x; color y; }; float f(p a) { return a.x; } shader s() { p b; float r = f(b); }",
+        64 + 64,
+        64 + 39,
+        1,
+    ),
+    // Calls, of which one is the argument of the other, are not open at once.
+    (
+        "int f(int a) { return a; } shader s(int x = f(f(1))) { }",
+        64 + 48,
+        64 + 24,
+        1,
+    ),
+    // A structure without fields has no leaves.
+    ("struct e { }; shader s() { e a; }", 64 + 4, 64 + 2, 0),
+    // The operation is the assignment's, not a node.
+    ("shader s() { int i; i += 2; }", 64 + 8 + 16, 64 + 4 + 10, 0),
+    (
+        "shader s() { int i; if (i && 1) i = 2; else ; }",
+        64 + 8 + 36,
+        64 + 4 + 9 + 12,
+        0,
+    ),
+    ("shader s() { while (0) break; }", 64 + 12, 64 + 3 + 2, 0),
+    // The variable of the head is no statement.
+    (
+        "shader s() { for (int i = 0; i < 2; ++i) ; }",
+        64 + 36,
+        64 + 9 + 14,
+        0,
+    ),
+    ("shader s() { exit(); }", 64 + 8, 64 + 2, 0),
     // Metadata does not count.
     (
         "shader s [[string help = \"h\"]] (int a = 0 [[int lockgeom = 1]]) { }",

@@ -76,7 +76,7 @@ static REFUSED: [&str; 95] = [
     "shader s(float a = missing) {}",
     "shader s(float a = 1, float b = a = 2) {}",
     "shader s(float a = h(1)) {}",
-    "surface s(float a = P = 0) {}",
+    "surface s(point a = P = 0) {}",
     "shader s(float a = result) { float result; }",
     "shader s(float a = 1) { a = 2; }",
     "shader s(float a = 1) { a += 2; }",

@@ -4,7 +4,8 @@ use super::{Verdict, all_have};
 use std::test::Fail;
 
 /// Sources whose structures are taken.
-static TAKEN: [&str; 14] = [
+static TAKEN: [&str; 15] = [
+    "struct r { }; surface s() { r a, b; a = b; }",
     "struct r { float a; }; surface s() {}",
     "struct r { float a, b[3]; color c; string d; matrix e; }; surface s() {}",
     "struct r { float a; }; struct q { r a; r b; int c; }; surface s() {}",
@@ -22,7 +23,8 @@ static TAKEN: [&str; 14] = [
 ];
 
 /// Sources with a structure that is refused, or a use of one.
-static REFUSED: [&str; 29] = [
+static REFUSED: [&str; 30] = [
+    "struct r { }; surface s() { r a = {1}; }",
     "struct r { float a; }; struct r { int b; }; surface s() {}",
     "struct r { float a; int a; }; surface s() {}",
     "struct r { float a, a; }; surface s() {}",
