@@ -28,7 +28,7 @@ impl Shader {
     ghost use Rattle.oso_code.specs.Valid.{IsValid, first_flaw};
 
     /// The shader of code that has no flaw.
-    pub(crate) fn of_valid(raw: Raw) -> Shader
+    pub fn of_valid(raw: Raw) -> Shader
         requires { first_flaw raw ≡ None }
         ensures { result ≡ raw }
     {

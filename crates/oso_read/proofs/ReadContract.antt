@@ -1,18 +1,13 @@
 -- What the contract of reading says, from what a text reads as.
 use Rattle.std.proofs.Common.{◌≡◌, ℕ, List, Option, Some, Ok, Err, sym, ap, ◌∙◌, subst}
 use Rattle.std.specs.Prelude.{Result, IfOk, slice_index}
-use Rattle.oso_code.specs.declared.error.CodeError.{CodeError}
-use Rattle.oso_code.specs.declared.error.CodeError.TheVariants.{Flaw}
-use Rattle.oso_code.specs.declared.error.FlawKind.{FlawKind}
 use Rattle.oso_code.specs.declared.raw.Raw.{Raw}
-use Rattle.oso_code.specs.Refusal.{Refuses}
 use Rattle.oso_read.specs.declared.error.OsoError.{OsoError}
 use Rattle.oso_read.specs.declared.error.OsoError.TheVariants as errors
 use Rattle.oso_read.specs.declared.error.OsoKind.{OsoKind}
 use Rattle.oso_read.specs.Faults.{Fault, fault, Fails, Gives}
 use Rattle.oso_read.specs.Reading.{range_fault, in_range, reading}
 use Rattle.oso_read.specs.Spelt.{Spelt}
-use Rattle.oso_read.proofs.ReadValid.{read_is_not_refused}
 use Rattle.oso_read.proofs.ReadsSpelt.{reads_spelt}
 use Rattle.oso_read.proofs.SpeltReads.{spelt_reads}
 
@@ -28,6 +23,3 @@ found_is_spelt bytes (Err e) read = tt
 
 pub spelt_is_found : (bytes : List ℕ) (result : Result Raw OsoError) (raw : Raw) → Gives (λ (raw : Raw). raw) result (reading bytes) → Spelt bytes raw → Gives (λ (raw : Raw). raw) result (Ok raw)
 spelt_is_found bytes result raw read spelt = subst (λ (r : Result Raw Fault). Gives (λ (raw : Raw). raw) result r) (spelt_reads bytes raw spelt) read
-
-pub not_refused : (bytes : List ℕ) (raw : Raw) (e : CodeError) (kind : FlawKind) (at : ℕ) → reading bytes ≡ Ok raw → Refuses raw e → e ≡ Flaw kind at → ⊥
-not_refused bytes raw e kind at read cause is = read_is_not_refused bytes raw kind at read (subst (λ (d : CodeError). Refuses raw d) is cause)

@@ -163,16 +163,6 @@ read_is_valid bytes raw h =
     let filled = filled_first o.value.head.kind d.value.symbols d.value.rest f.value are.rest f.gave in
     closed_valid bytes o.value.head d.value.symbols f.value.body f.value.rest raw fits are.symbols filled f.rest
 
--- as few symbols and ops as the limits say
-pub read_is_small : (bytes : List ℕ) (raw : Raw) → reading bytes ≡ Ok raw → (length raw.symbols ≤ most_symbols) × (length raw.ops ≤ most_ops)
-read_is_small bytes raw h = let most = limits raw (read_is_valid bytes raw h) in (most.symbols, most.ops)
-
 -- it has no flaw
 pub read_is_flawless : (bytes : List ℕ) (raw : Raw) → reading bytes ≡ Ok raw → first_flaw raw ≡ None
 read_is_flawless bytes raw h = valid_flawless raw (read_is_valid bytes raw h)
-
-pub read_is_not_refused : (bytes : List ℕ) (raw : Raw) (kind : FlawKind) (at : ℕ) → reading bytes ≡ Ok raw → first_flaw raw ≡ Some (kind, at) → ⊥
-read_is_not_refused bytes raw kind at h flaw = none_some (sym (read_is_flawless bytes raw h) ∙ flaw)
-  where
-    none_some : ◌≡◌ {A = Option Flaw} None (Some (kind, at)) → ⊥
-    none_some e = cc e

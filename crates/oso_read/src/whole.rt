@@ -20,7 +20,7 @@ use crate::table::Table;
 use osl_value::Memory;
 use oso_code::checks::opened::RangeFaults;
 use oso_code::checks::ranges::range_faults;
-use oso_code::{CodeError, ListOf, Op, Raw, Section, Shader, validate};
+use oso_code::{ListOf, Op, Raw, Section, Shader};
 use std::alloc::Global;
 
 /// The fault that comes first of those that a walk over the ops found, with the op's number.
@@ -111,11 +111,7 @@ fn read_shader(alloc: Global, bytes: &[u8]) -> Result<Shader, OsoError>
     ensures { Gives (λ shader. shader) result (reading bytes.now) }
 {
     let raw = read_raw(alloc, bytes)?;
-    match validate(alloc, raw) {
-        Ok(shader) => Ok(shader),
-        Err((_raw, CodeError::Memory)) => Err(OsoError::Memory),
-        Err((_raw, CodeError::Flaw { .. })) => unreachable!(),
-    }
+    Ok(Shader::of_valid(raw))
 }
 
 /// The shader that a text spells.

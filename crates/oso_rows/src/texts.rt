@@ -39,7 +39,9 @@ const HINTED: &[u8] =
 const SPACED: &[u8] =
     b"\n \t\r\n# one\nOpenShadingLanguage\t1.00 %a{\"}\"} \r\n  # two\nshader  plain\t\r\n\toparam float r 7\ncode ___main___ %b{ x }\nend %c{}\n# three";
 
-static ACCEPTED: [&[u8]; 14] = [
+static ACCEPTED: [&[u8]; 15] = [
+    // The bytes 127 and 0 of a string are written as octal digits.
+    b"OpenShadingLanguage 1.00\nshader s\nconst string a \"\\177\\000\"\ncode ___main___\nend\n",
     HINTED,
     SPACED,
     // Metadata, of every type.
@@ -121,7 +123,7 @@ fn other_texts_are_written_canonically(rt: HostRuntime) -> Result<(), Fail> {
     Ok(())
 }
 
-static REFUSED: [(&[u8], OsoKind, u32); 91] = [
+static REFUSED: [(&[u8], OsoKind, u32); 106] = [
     // The first two lines.
     (b"", OsoKind::Header, 1),
     (b"\n# no\n", OsoKind::Header, 3),
@@ -540,6 +542,82 @@ static REFUSED: [(&[u8], OsoKind, u32); 91] = [
         OsoKind::Jump,
         5,
     ),
+    // What is wrong first on a line, and edges of words.
+    (
+        b"OpenShadingLanguage 1.00\nshader s\nlocal float a\nlocal float a 1\n",
+        OsoKind::Line,
+        4,
+    ),
+    (
+        b"OpenShadingLanguage 1.00\nshader s\nparam float ___main___ 7.0\n",
+        OsoKind::Line,
+        3,
+    ),
+    (
+        b"OpenShadingLanguage 1.00\nshader s\nparam float a 0\ncode ___main___\nnoise a -1\nend\n",
+        OsoKind::Line,
+        5,
+    ),
+    (
+        b"OpenShadingLanguage 1.00\nshader s\nlocal float a\nconst string s \"\"\ncode ___main___\nassign a s\nend\n",
+        OsoKind::Op,
+        6,
+    ),
+    (
+        b"OpenShadingLanguage 1.00\nshader s\nconst int c 1\ncode ___main___\nif c 1\nend\n",
+        OsoKind::Op,
+        5,
+    ),
+    (
+        b"OpenShadingLanguage 1.00\nshader s\nlocal int a\nconst int c 1\ncode ___main___\nassign a c 3\nend\n",
+        OsoKind::Op,
+        6,
+    ),
+    (
+        b"OpenShadingLanguage 1.00\nshader s\nconst int c 1\ncode ___main___\nif c 01 2\nend\n",
+        OsoKind::Line,
+        5,
+    ),
+    (
+        b"OpenShadingLanguage 1.00\nshader s\nconst int c 1\ncode ___main___\nif c 1 4294967296\nend\n",
+        OsoKind::Line,
+        5,
+    ),
+    (
+        b"OpenShadingLanguage 1.00\nshader s\nconst int c 1\ncode ___main___\nif c 1 4294967295\nend\n",
+        OsoKind::Jump,
+        5,
+    ),
+    (
+        b"OpenShadingLanguage 1.00\nshader s\nconst string s \"\\176\"\n",
+        OsoKind::Line,
+        3,
+    ),
+    (
+        b"OpenShadingLanguage 1.00\nshader s\nconst string s \"\x7f\"\n",
+        OsoKind::Line,
+        3,
+    ),
+    (
+        b"OpenShadingLanguage 1.00\nshader s\nconst int a -0\n",
+        OsoKind::Line,
+        3,
+    ),
+    (
+        b"OpenShadingLanguage 1.00\nshader s\n%x{}\ncode ___main___\nend\n",
+        OsoKind::Line,
+        3,
+    ),
+    (
+        b"OpenShadingLanguage 1.00\nshader s\ncode ___main___\nend\r",
+        OsoKind::Line,
+        4,
+    ),
+    (
+        b"%x{}\nOpenShadingLanguage 1.00\nshader s\n",
+        OsoKind::Header,
+        1,
+    ),
 ];
 
 /// An output and a constant, and an op in a range.
@@ -587,35 +665,93 @@ fn faults_have_their_kind_and_line(rt: HostRuntime) {
     }
 }
 
-/// A shader of so many calls, one in another.
-fn nested(alloc: Global, depth: i32) -> Result<Vec<u8>, Fail> {
+/// A shader of so many calls, one in another, which all end at the op of this number, with lines before and behind them.
+fn nested(
+    alloc: Global,
+    before: &[u8],
+    depth: usize,
+    end: i32,
+    behind: &[u8],
+) -> Result<Vec<u8>, Fail> {
     let mut text = Vec::from_slice(
         alloc,
         b"OpenShadingLanguage 1.00\nshader s\ncode ___main___\n",
     )?;
+    text.extend_from_slice(before)?;
     for _call in 0..depth {
         text.extend_from_slice(b"functioncall ")?;
-        write_int(depth, &mut text)?;
+        write_int(end, &mut text)?;
         text.push(b'\n')?;
     }
+    text.extend_from_slice(behind)?;
     text.extend_from_slice(b"end\n")?;
     Ok(text)
 }
 
 #[test]
 fn ranges_nest_within_a_limit(rt: HostRuntime) -> Result<(), Fail> {
-    for (depth, fault) in [
-        (4608, None),
-        (
-            4609,
-            Some(OsoError::Bad {
-                kind: OsoKind::Limit,
-                line: 4612,
-            }),
-        ),
-    ] {
-        let text = nested(rt.alloc(), depth)?;
-        assert_eq!(rt; fault_of(rt.alloc(), text.as_slice()), fault);
+    let too_deep = OsoError::Bad {
+        kind: OsoKind::Limit,
+        line: 4612,
+    };
+    let too_far = OsoError::Bad {
+        kind: OsoKind::Jump,
+        line: 4,
+    };
+    let rows: [(&[u8], usize, i32, &[u8], Option<OsoError>); 4] = [
+        (b"", 4608, 4608, b"", None),
+        (b"", 4609, 4609, b"", Some(too_deep)),
+        // Of a jump at fault and a range too deep the first line counts.
+        (b"", 4609, 4610, b"break\n", Some(too_deep)),
+        (b"functioncall 99999\n", 4609, 4610, b"", Some(too_far)),
+    ];
+    for (before, depth, end, behind, fault) in rows {
+        let text = nested(rt.alloc(), before, depth, end, behind)?;
+        assert_eq!(rt;
+            fault_of(rt.alloc(), text.as_slice()),
+            fault,
+            "{depth} {end}"
+        );
+    }
+    Ok(())
+}
+
+/// A text with a word of so many letters between these parts.
+fn with_letters(
+    alloc: Global,
+    before: &[u8],
+    count: usize,
+    behind: &[u8],
+) -> Result<Vec<u8>, Fail> {
+    let mut text = Vec::from_slice(alloc, b"OpenShadingLanguage 1.00\n")?;
+    text.extend_from_slice(before)?;
+    for _letter in 0..count {
+        text.push(b'x')?;
+    }
+    text.extend_from_slice(behind)?;
+    text.extend_from_slice(b"\ncode ___main___\nend\n")?;
+    Ok(text)
+}
+
+#[test]
+fn strings_and_names_have_their_lengths(rt: HostRuntime) -> Result<(), Fail> {
+    let name: (&[u8], &[u8]) = (b"shader s\nlocal int ", b"");
+    let shader: (&[u8], &[u8]) = (b"shader ", b"");
+    let string: (&[u8], &[u8]) = (b"shader s\nconst string a \"", b"\"");
+    let datum: (&[u8], &[u8]) = (b"shader s %meta{string,t,\"", b"\"}");
+    let rows = [
+        (name, 255, None),
+        (name, 256, Some((OsoKind::Line, 3))),
+        (shader, 255, None),
+        (shader, 256, Some((OsoKind::Header, 2))),
+        (string, 512, None),
+        (string, 513, Some((OsoKind::Line, 3))),
+        (datum, 513, None),
+    ];
+    for ((before, behind), count, fault) in rows {
+        let text = with_letters(rt.alloc(), before, count, behind)?;
+        let fault = fault.map(|(kind, line)| OsoError::Bad { kind, line });
+        assert_eq!(rt; fault_of(rt.alloc(), text.as_slice()), fault, "{count}");
     }
     Ok(())
 }
