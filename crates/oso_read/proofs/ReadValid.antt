@@ -4,7 +4,6 @@ use Rattle.std.specs.Prelude.{IsTrue, if◌then◌else◌, nat_le}
 use Rattle.std.specs.Option.{ok_or}
 use Rattle.std.proofs.lemmas.Bool.{and_from, le-leb}
 use Rattle.std.proofs.lemmas.Option.{slice_get_within}
-use Rattle.oso_code.specs.declared.error.FlawKind.{FlawKind}
 use Rattle.oso_code.specs.declared.raw.Raw.{Raw}
 use Rattle.oso_code.specs.declared.symbol.Symbol.{Symbol}
 use Rattle.oso_code.specs.Faults.{least}
@@ -13,7 +12,7 @@ use Rattle.oso_code.specs.Ops.{owner_at, op_fits}
 use Rattle.oso_code.specs.Ranges.{jumps_fit, jump_faults, steps_of}
 use Rattle.oso_code.specs.Sections.{section_faults}
 use Rattle.oso_code.specs.Symbols.{is_empty, datum_fits}
-use Rattle.oso_code.specs.Valid.{most_symbols, most_ops, most_slots, slots_of, deep_faults, fits_limits, Flaw, first_flaw, IsValid}
+use Rattle.oso_code.specs.Valid.{most_symbols, most_ops, most_slots, slots_of, deep_faults, fits_limits, first_flaw, IsValid}
 use Rattle.oso_code.proofs.Fitting.{least_none, each_fits}
 use Rattle.oso_code.proofs.Validity.{valid_flawless}
 use Rattle.std.specs.List.{list_all}
@@ -24,7 +23,6 @@ use Rattle.oso_read.specs.Text.{Numbered, told, line_count}
 use Rattle.oso_read.specs.Hints.{Saying, saying}
 use Rattle.oso_read.specs.SymbolLine.{Head, head_at}
 use Rattle.oso_read.specs.Reading.{heard, headed, named_from, Opened, opened, Declared, declared_from, Body, empty_body, Filled, filled_from, last_start, sections_of, raw_of, sooner, range_fault, in_range, is_ended, says_end, has_main, nothing_behind, ended, closed, reading}
-use Rattle.oso_read.proofs.Limits.{limits}
 use Rattle.oso_read.proofs.Passing.{ok_of, goes_on, line_gave, hears, some_from_ok}
 use Rattle.oso_read.proofs.ValidBody.{IsFilled, filled_first}
 use Rattle.oso_read.proofs.ValidHead.{HeadFits, head_fits}
