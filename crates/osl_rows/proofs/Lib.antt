@@ -1,0 +1,5 @@
+pub mod Words
+mod Order
+mod Loops
+mod Calls
+mod Starts
