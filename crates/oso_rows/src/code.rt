@@ -43,6 +43,39 @@ pub fn int(alloc: Global, n: i32) -> Result<Value, Memory> {
     Ok(value)
 }
 
+fn array(base: Base, len: u32) -> Ty {
+    Ty { base, len }
+}
+
+/// The type that a word of a table names.
+pub fn type_named(word: &str) -> Option<Ty> {
+    match word {
+        "int" => Some(Ty::only(Base::Int)),
+        "float" => Some(Ty::only(Base::Float)),
+        "color" => Some(Ty::only(Base::Color)),
+        "point" => Some(Ty::only(Base::Point)),
+        "vector" => Some(Ty::only(Base::Vector)),
+        "normal" => Some(Ty::only(Base::Normal)),
+        "matrix" => Some(Ty::only(Base::Matrix)),
+        "string" => Some(Ty::only(Base::Str)),
+        "closure" => Some(Ty::only(Base::Closure)),
+        "int[1]" => Some(array(Base::Int, 1)),
+        "int[2]" => Some(array(Base::Int, 2)),
+        "int[3]" => Some(array(Base::Int, 3)),
+        "float[1]" => Some(array(Base::Float, 1)),
+        "float[2]" => Some(array(Base::Float, 2)),
+        "float[5]" => Some(array(Base::Float, 5)),
+        "color[2]" => Some(array(Base::Color, 2)),
+        "point[2]" => Some(array(Base::Point, 2)),
+        "normal[1]" => Some(array(Base::Normal, 1)),
+        "matrix[1]" => Some(array(Base::Matrix, 1)),
+        "matrix[2]" => Some(array(Base::Matrix, 2)),
+        "string[1]" => Some(array(Base::Str, 1)),
+        "string[2]" => Some(array(Base::Str, 2)),
+        _ => None,
+    }
+}
+
 /// The zero of a type, which a closure has not.
 pub fn zero(alloc: Global, ty: Ty) -> Result<Option<Value>, Memory> {
     match ty.base {

@@ -2,7 +2,9 @@
 
 mod classes;
 mod metadata;
+mod owners;
 mod ranges;
+mod types;
 
 use crate::code::{Line, Part, body, code, numbered, op, ops, sections, symbol, text};
 use osl_value::{Base, Memory, OpName, Ty, Value};
@@ -242,7 +244,7 @@ struct SectionRow {
 }
 
 // The parameters are 0, 1 and 2, the value of 2 is not zero, and 3 is a constant.
-static SECTION_ROWS: [SectionRow; 14] = [
+static SECTION_ROWS: [SectionRow; 27] = [
     SectionRow {
         sections: &[(None, 0, 4)],
         at: None,
@@ -306,6 +308,74 @@ static SECTION_ROWS: [SectionRow; 14] = [
     SectionRow {
         sections: &[(Some(3), 0, 1), (None, 1, 4)],
         at: Some(0),
+    },
+    SectionRow {
+        sections: &[(Some(1), 0, 1), (Some(3), 1, 2), (None, 2, 4)],
+        at: Some(1),
+    },
+    // There is no such symbol.
+    SectionRow {
+        sections: &[(Some(4), 0, 1), (None, 1, 4)],
+        at: Some(0),
+    },
+    SectionRow {
+        sections: &[(Some(0), 0, 1), (Some(u32::MAX), 1, 2), (None, 2, 4)],
+        at: Some(1),
+    },
+    // Parameters have all ops, or none.
+    SectionRow {
+        sections: &[(Some(0), 0, 4), (None, 4, 4)],
+        at: None,
+    },
+    SectionRow {
+        sections: &[(Some(0), 0, 0), (Some(1), 0, 0), (None, 0, 4)],
+        at: None,
+    },
+    // One ends before it begins; of the body, its end is at fault too.
+    SectionRow {
+        sections: &[(Some(0), 0, 2), (Some(1), 2, 1), (None, 1, 4)],
+        at: Some(2),
+    },
+    SectionRow {
+        sections: &[(Some(0), 0, 4), (None, 4, 3)],
+        at: Some(3),
+    },
+    // A parameter's ends behind the ops.
+    SectionRow {
+        sections: &[(Some(0), 0, 5), (None, 5, 5)],
+        at: Some(0),
+    },
+    // One stands again behind another, and the body twice.
+    SectionRow {
+        sections: &[
+            (Some(0), 0, 1),
+            (Some(1), 1, 2),
+            (Some(0), 2, 3),
+            (None, 3, 4),
+        ],
+        at: Some(2),
+    },
+    SectionRow {
+        sections: &[(None, 0, 2), (None, 2, 4)],
+        at: Some(2),
+    },
+    SectionRow {
+        sections: &[(None, 0, 4), (None, 4, 4)],
+        at: Some(4),
+    },
+    // Of two faults the lesser place counts, whichever section comes first.
+    SectionRow {
+        sections: &[(Some(1), 0, 1), (Some(0), 1, 3), (None, 2, 4)],
+        at: Some(1),
+    },
+    SectionRow {
+        sections: &[
+            (Some(0), 0, 3),
+            (Some(1), 3, 1),
+            (Some(0), 1, 2),
+            (None, 2, 4),
+        ],
+        at: Some(1),
     },
 ];
 

@@ -127,7 +127,7 @@ struct OwnerRow {
     at: Option<u32>,
 }
 
-static OWNER_ROWS: [OwnerRow; 18] = [
+static OWNER_ROWS: [OwnerRow; 20] = [
     OwnerRow {
         name: "a section reads an earlier parameter and its own",
         sections: &[(Some(B), 0, 1), (None, 1, 1)],
@@ -252,6 +252,26 @@ static OWNER_ROWS: [OwnerRow; 18] = [
             (OpName::Assign, &[A, T], &[]),
         ],
         at: Some(1),
+    },
+    // An op's fault and a section's are of one kind: the lesser place counts.
+    OwnerRow {
+        name: "a section at fault before an op at fault",
+        sections: &[(Some(B), 0, 1), (Some(A), 1, 2), (None, 2, 3)],
+        ops: &[
+            (OpName::Assign, &[B, A], &[]),
+            (OpName::Assign, &[T, T], &[]),
+            (OpName::Assign, &[ZERO, T], &[]),
+        ],
+        at: Some(1),
+    },
+    OwnerRow {
+        name: "an op at fault before a section at fault",
+        sections: &[(Some(B), 0, 1), (Some(A), 1, 2), (None, 2, 2)],
+        ops: &[
+            (OpName::Assign, &[ZERO, T], &[]),
+            (OpName::Assign, &[T, T], &[]),
+        ],
+        at: Some(0),
     },
 ];
 

@@ -15,7 +15,8 @@ struct Case {
     sections: &'static [Part],
     ops: &'static [Line],
     budget: u32,
-    /// What each parameter has: 0 its default, 1 the value 5, 2 a connection to 3, 3 a connection to nothing.
+    /// What each parameter has: 0 its default, 1 the value 5, 2 a connection to 3, 3 a connection to nothing, 4 a
+    /// connection to 0.
     inputs: [u8; 3],
     /// The parameters that it asks for.
     asks: &'static [u32],
@@ -57,7 +58,7 @@ static SYMBOLS: [(Class, &str, Option<i32>); 10] = [
     (Class::Temp, "t", None),
 ];
 
-static CASES: [Case; 29] = [
+static CASES: [Case; 36] = [
     Case {
         name: "a default",
         sections: &[(None, 0, 1)],
@@ -437,6 +438,124 @@ static CASES: [Case; 29] = [
         asks: &[],
         gives: Some(3),
     },
+    // A run that waits at a loop's own condition goes on there: nothing before it is run again. What the ops add shows how
+    // often each was run.
+    Case {
+        name: "a dowhile waits at its condition, and breaks on its second turn",
+        sections: &[(None, 0, 8)],
+        ops: &[
+            (OpName::DoWhile, &[A], &[7, 7]),
+            (OpName::Add, &[I, I, ONE], &[]),
+            (OpName::Add, &[R, R, THREE], &[]),
+            (OpName::Lt, &[T, ONE, I], &[]),
+            (OpName::If, &[T], &[6, 6]),
+            (OpName::Break, &[], &[]),
+            (OpName::Add, &[R, R, TEN], &[]),
+            (OpName::Add, &[R, R, ONE], &[]),
+        ],
+        budget: 2,
+        inputs: [2, 0, 0],
+        asks: &[A],
+        gives: Some(17),
+    },
+    Case {
+        name: "a dowhile waits at its condition, and has no second turn",
+        sections: &[(None, 0, 8)],
+        ops: &[
+            (OpName::DoWhile, &[A], &[7, 7]),
+            (OpName::Add, &[I, I, ONE], &[]),
+            (OpName::Add, &[R, R, THREE], &[]),
+            (OpName::Lt, &[T, ONE, I], &[]),
+            (OpName::If, &[T], &[6, 6]),
+            (OpName::Break, &[], &[]),
+            (OpName::Add, &[R, R, TEN], &[]),
+            (OpName::Add, &[R, R, ONE], &[]),
+        ],
+        budget: 1,
+        inputs: [2, 0, 0],
+        asks: &[A],
+        gives: None,
+    },
+    Case {
+        name: "a dowhile waits at its condition, which does not hold",
+        sections: &[(None, 0, 8)],
+        ops: &[
+            (OpName::DoWhile, &[A], &[7, 7]),
+            (OpName::Add, &[I, I, ONE], &[]),
+            (OpName::Add, &[R, R, THREE], &[]),
+            (OpName::Lt, &[T, ONE, I], &[]),
+            (OpName::If, &[T], &[6, 6]),
+            (OpName::Break, &[], &[]),
+            (OpName::Add, &[R, R, TEN], &[]),
+            (OpName::Add, &[R, R, ONE], &[]),
+        ],
+        budget: 1,
+        inputs: [4, 0, 0],
+        asks: &[A],
+        gives: Some(14),
+    },
+    Case {
+        name: "a dowhile waits behind the range of its condition",
+        sections: &[(None, 0, 4)],
+        ops: &[
+            (OpName::DoWhile, &[A], &[2, 3]),
+            (OpName::Add, &[R, R, ONE], &[]),
+            (OpName::Add, &[R, R, TEN], &[]),
+            (OpName::Add, &[R, R, THREE], &[]),
+        ],
+        budget: 1,
+        inputs: [4, 0, 0],
+        asks: &[A],
+        gives: Some(14),
+    },
+    Case {
+        name: "a while waits behind the range of its condition",
+        sections: &[(None, 0, 5)],
+        ops: &[
+            (OpName::While, &[A], &[2, 4]),
+            (OpName::Add, &[R, R, ONE], &[]),
+            (OpName::Add, &[R, R, TEN], &[]),
+            (OpName::Break, &[], &[]),
+            (OpName::Add, &[R, R, THREE], &[]),
+        ],
+        budget: 1,
+        inputs: [2, 0, 0],
+        asks: &[A],
+        gives: Some(14),
+    },
+    Case {
+        name: "a for waits behind the range of its condition",
+        sections: &[(None, 0, 5)],
+        ops: &[
+            (OpName::For, &[A], &[2, 3, 4]),
+            (OpName::Add, &[R, R, ONE], &[]),
+            (OpName::Add, &[R, R, TEN], &[]),
+            (OpName::Add, &[R, R, SIX], &[]),
+            (OpName::Add, &[R, R, THREE], &[]),
+        ],
+        budget: 0,
+        inputs: [4, 0, 0],
+        asks: &[A],
+        gives: Some(4),
+    },
+    Case {
+        name: "two loops wait at their conditions, one in the other",
+        sections: &[(None, 0, 8)],
+        ops: &[
+            (OpName::DoWhile, &[A], &[7, 7]),
+            (OpName::Add, &[I, I, ONE], &[]),
+            (OpName::DoWhile, &[B], &[4, 4]),
+            (OpName::Add, &[R, R, ONE], &[]),
+            (OpName::Lt, &[T, ONE, I], &[]),
+            (OpName::If, &[T], &[7, 7]),
+            (OpName::Break, &[], &[]),
+            (OpName::Add, &[R, R, TEN], &[]),
+        ],
+        budget: 4,
+        inputs: [2, 4, 0],
+        asks: &[B, A],
+        gives: Some(12),
+    },
 ];
 
 fn symbols(alloc: Global) -> Result<Vec<Symbol>, Memory> {
@@ -482,7 +601,11 @@ fn outcome(alloc: Global, case: &Case, asked: &mut Vec<u32>) -> Result<Option<i3
         budget: case.budget,
     };
     let three = int(alloc, 3)?;
-    let entries = [given(case.inputs[0], &three), given(case.inputs[1], &three)];
+    let zero = int(alloc, 0)?;
+    let entries = [
+        given(case.inputs[0], &three, &zero),
+        given(case.inputs[1], &three, &zero),
+    ];
     let Some(run) = ended(alloc, &arena, &layer, &entries, asked)? else {
         return Ok(None);
     };
@@ -492,11 +615,11 @@ fn outcome(alloc: Global, case: &Case, asked: &mut Vec<u32>) -> Result<Option<i3
     }
 }
 
-fn given<'s, 'a>(input: u8, value: &'s Value) -> Given<'s, 'a> {
-    if input == 2 {
-        Given::Value(value)
-    } else {
-        Given::Nothing
+fn given<'s, 'a>(input: u8, three: &'s Value, zero: &'s Value) -> Given<'s, 'a> {
+    match input {
+        2 => Given::Value(three),
+        4 => Given::Value(zero),
+        _ => Given::Nothing,
     }
 }
 

@@ -1,7 +1,7 @@
 //! Each operation on constants.
 
 use super::{Layer, ended, output};
-use crate::code::{body, op, shader, symbol, text, zero};
+use crate::code::{body, op, shader, symbol, text, type_named, zero};
 use bumpalo::Bump;
 use osl_interp::{Given, OutRef};
 use osl_value::{Base, LayerValues, Memory, OpName, Text, Ty, Value};
@@ -139,29 +139,6 @@ struct Case {
     name: OpName,
     args: Vec<Value>,
     gives: Value,
-}
-
-fn array(base: Base, len: u32) -> Ty {
-    Ty { base, len }
-}
-
-fn type_named(word: &str) -> Option<Ty> {
-    match word {
-        "int" => Some(Ty::only(Base::Int)),
-        "float" => Some(Ty::only(Base::Float)),
-        "color" => Some(Ty::only(Base::Color)),
-        "point" => Some(Ty::only(Base::Point)),
-        "vector" => Some(Ty::only(Base::Vector)),
-        "normal" => Some(Ty::only(Base::Normal)),
-        "matrix" => Some(Ty::only(Base::Matrix)),
-        "string" => Some(Ty::only(Base::Str)),
-        "int[3]" => Some(array(Base::Int, 3)),
-        "float[2]" => Some(array(Base::Float, 2)),
-        "float[5]" => Some(array(Base::Float, 5)),
-        "color[2]" => Some(array(Base::Color, 2)),
-        "string[2]" => Some(array(Base::Str, 2)),
-        _ => None,
-    }
 }
 
 /// The words of a row, but for the mark before what it gives.
