@@ -1,5 +1,5 @@
 //! Tests that cross crates: rows of sources, with their tokens, the shapes of their trees, whether they have a typing,
-//! and their sizes; names through blocks; and whole jobs, with their status and what they print.
+//! what their typed trees say, and their sizes; names through blocks; and whole jobs, with their status and what they print.
 //! What is expected was written by hand, from the language's rules and the formats.
 #![tactic(auto)]
 
@@ -13,6 +13,8 @@ mod shape;
 mod sizes;
 #[cfg(test)]
 mod tests;
+#[cfg(test)]
+mod trees;
 #[cfg(test)]
 mod typing;
 
