@@ -439,7 +439,9 @@ fn ranges_nest_so_deep(rt: HostRuntime) -> Result<(), Fail> {
 #[test]
 fn a_copy_is_valid_too(rt: HostRuntime) -> Result<(), Fail> {
     let alloc = rt.alloc();
-    match validate(alloc, code_of(alloc, Vec::new(alloc))?) {
+    let raw = code_of(alloc, Vec::new(alloc))?;
+    assert!(rt; raw.symbols.len() < 10 && raw.ops.len() < 10);
+    match validate(alloc, raw) {
         Ok(shader) => {
             let copy = shader.copy(alloc)?;
             assert_eq!(rt; copy.raw().symbols.len(), 4);

@@ -5,12 +5,14 @@ use crate::code::{body, code, op, symbol, type_named};
 use osl_value::{Base, Memory, OpName, Ty};
 use oso_code::{Class, FlawKind, Raw, Symbol};
 use std::alloc::Global;
+use std::process::Abort;
 use std::test::Fail;
 
-/// Rows of which operations take or refuse which types of their arguments, in lists parted by commas. What is written
-/// comes first.
-static ROWS: [&str; 270] = [
-    // Copies and conversions.
+// Below, rows of which operations take or refuse which types of their arguments, in lists parted by commas. What is
+// written comes first.
+
+/// Copies and conversions.
+static COPIES: [&str; 12] = [
     "assign takes int int, float int, float float, color int, color float, color color, point color, normal vector",
     "assign takes matrix matrix, string string, closure closure, int[3] int[3], color[2] color[2], float[1] float[1]",
     "assign refuses int float, int color, float color, float string, color matrix, color string, matrix int",
@@ -23,7 +25,10 @@ static ROWS: [&str; 270] = [
     "toint takes int float",
     "toint refuses int int, float float, float int, int color, int string, int matrix, int float[1], float[1] float",
     "toint refuses int float float, int",
-    // Arithmetic.
+];
+
+/// Arithmetic.
+static ARITHMETIC: [&str; 34] = [
     "add takes int int int, float float float, color float float, color color float, point float normal",
     "add takes vector point color, closure closure closure",
     "add refuses float int float, float float int, float int int, int float float, int int float, int float int",
@@ -58,7 +63,10 @@ static ROWS: [&str; 270] = [
     "neg takes int int, float float, color color, point normal, vector float",
     "neg refuses float int, int float, float color, color int, closure closure, matrix matrix, string string",
     "neg refuses float[2] float[2], int int int, float float float, int",
-    // Bits and truth.
+];
+
+/// Bits and truth.
+static BITS: [&str; 19] = [
     "compl takes int int",
     "compl refuses float float, int float, float int, color color, int[3] int[3], int string, int int int",
     "bitand takes int int int",
@@ -78,7 +86,10 @@ static ROWS: [&str; 270] = [
     "not takes int int, int float",
     "not refuses float float, float int, int color, int normal, int matrix, int string, int closure, int int[1]",
     "not refuses int float[1], int int int, int",
-    // Comparisons.
+];
+
+/// Comparisons.
+static COMPARISONS: [&str; 25] = [
     "eq takes int int int, int float float, int float color, int vector float, int point normal, int color color",
     "eq takes int matrix matrix, int string string",
     "eq refuses int int float, int float int, int int color, int normal int, int matrix float, int color matrix",
@@ -104,7 +115,10 @@ static ROWS: [&str; 270] = [
     "ge takes int int int, int float float",
     "ge refuses int int float, int float int, int point point, int float normal, int string string, int matrix matrix",
     "ge refuses color float float, int float float[1], int int",
-    // Elements and components.
+];
+
+/// Elements and components.
+static ELEMENTS: [&str; 38] = [
     "aref takes int int[3] int, float float[1] int, color color[2] int, matrix matrix[2] int, string string[2] int",
     "aref refuses float float[2] float, int int[3] float, int float[2] int, float int[3] int, float color[2] int",
     "aref refuses point color[2] int, string int[3] int, float[2] float[2] int, float[1] float[2] int, float float int",
@@ -143,7 +157,10 @@ static ROWS: [&str; 270] = [
     "matrix takes matrix int, matrix float",
     "matrix refuses matrix color, matrix matrix, matrix string, matrix float[1], matrix float float, float float",
     "matrix refuses color float, matrix[1] float, matrix",
-    // Componentwise functions.
+];
+
+/// Componentwise functions.
+static COMPONENTWISE: [&str; 49] = [
     "abs takes int int, float float, color color, normal point, vector float",
     "abs refuses float int, int float, color int, float vector, int color, matrix matrix, string string",
     "abs refuses closure closure, float[2] float[2], int[3] int[3], int int int, float float float",
@@ -193,7 +210,10 @@ static ROWS: [&str; 270] = [
     "smoothstep refuses int int int int, float int int float, float float float int, int float float float",
     "smoothstep refuses float float float vector, color float int color, matrix float float matrix",
     "smoothstep refuses float[2] float[2] float[2] float[2], float float float, float float float float float",
-    // Geometry.
+];
+
+/// Geometry.
+static GEOMETRY: [&str; 27] = [
     "dot takes float vector vector, float normal color, float point vector",
     "dot refuses float float vector, float vector float, float float float, color color color, int vector vector",
     "dot refuses vector vector float, float matrix matrix, float matrix vector, float vector int",
@@ -221,7 +241,10 @@ static ROWS: [&str; 270] = [
     "transform refuses float matrix point, matrix matrix point, matrix matrix matrix, point color point",
     "transform refuses point float point, point string point, point matrix[1] point, point matrix point[2]",
     "transform refuses point[2] matrix point, point matrix matrix point, point matrix point point",
-    // Strings.
+];
+
+/// Strings.
+static STRINGS: [&str; 20] = [
     "concat takes string string string",
     "concat refuses string string int, string int string, string float string, int string string, string string",
     "concat refuses string string string string, string string string[1], string[2] string string",
@@ -242,7 +265,10 @@ static ROWS: [&str; 270] = [
     "getchar takes int string int",
     "getchar refuses string string int, float string int, int string float, int int int, int string string",
     "getchar refuses int string[1] int, int string, int string int int",
-    // Closure primitives.
+];
+
+/// Closure primitives.
+static CLOSURES: [&str; 30] = [
     "cl_emission takes closure",
     "cl_emission refuses color, float, string, closure color, closure normal, closure closure, nothing",
     "cl_background takes closure",
@@ -273,7 +299,10 @@ static ROWS: [&str; 270] = [
     "cl_debug takes closure string",
     "cl_debug refuses closure int, closure float, closure normal, closure closure, closure string[1], string string",
     "cl_debug refuses color string, closure, closure string string, nothing",
-    // Control operations: a condition, or nothing.
+];
+
+/// Control operations: a condition, or nothing.
+static CONTROL: [&str; 16] = [
     "if takes int",
     "if refuses float, color, matrix, string, closure, int[1], int int, nothing",
     "for takes int",
@@ -377,10 +406,9 @@ fn is_so(alloc: Global, name: OpName, takes: bool, types: &[Ty]) -> Result<bool,
     }
 }
 
-#[test]
-fn operations_take_their_types(rt: HostRuntime) -> Result<(), Fail> {
-    let alloc = rt.alloc();
-    for row in &ROWS {
+/// Each operation takes the types that its row says, or refuses them.
+fn all_so(rt: &impl Abort, alloc: Global, rows: &[&str]) -> Result<(), Fail> {
+    for row in rows {
         match read(row) {
             Some((name, takes, lists)) => {
                 for words in lists.split(',') {
@@ -392,6 +420,56 @@ fn operations_take_their_types(rt: HostRuntime) -> Result<(), Fail> {
         }
     }
     Ok(())
+}
+
+#[test]
+fn copies_take_their_types(rt: HostRuntime) -> Result<(), Fail> {
+    all_so(&rt, rt.alloc(), &COPIES)
+}
+
+#[test]
+fn arithmetic_takes_its_types(rt: HostRuntime) -> Result<(), Fail> {
+    all_so(&rt, rt.alloc(), &ARITHMETIC)
+}
+
+#[test]
+fn bits_and_truth_take_their_types(rt: HostRuntime) -> Result<(), Fail> {
+    all_so(&rt, rt.alloc(), &BITS)
+}
+
+#[test]
+fn comparisons_take_their_types(rt: HostRuntime) -> Result<(), Fail> {
+    all_so(&rt, rt.alloc(), &COMPARISONS)
+}
+
+#[test]
+fn elements_take_their_types(rt: HostRuntime) -> Result<(), Fail> {
+    all_so(&rt, rt.alloc(), &ELEMENTS)
+}
+
+#[test]
+fn componentwise_functions_take_their_types(rt: HostRuntime) -> Result<(), Fail> {
+    all_so(&rt, rt.alloc(), &COMPONENTWISE)
+}
+
+#[test]
+fn geometry_takes_its_types(rt: HostRuntime) -> Result<(), Fail> {
+    all_so(&rt, rt.alloc(), &GEOMETRY)
+}
+
+#[test]
+fn strings_take_their_types(rt: HostRuntime) -> Result<(), Fail> {
+    all_so(&rt, rt.alloc(), &STRINGS)
+}
+
+#[test]
+fn closures_take_their_types(rt: HostRuntime) -> Result<(), Fail> {
+    all_so(&rt, rt.alloc(), &CLOSURES)
+}
+
+#[test]
+fn control_takes_its_types(rt: HostRuntime) -> Result<(), Fail> {
+    all_so(&rt, rt.alloc(), &CONTROL)
 }
 
 /// A target and so many numbers, ints and floats by the bits of a mask.

@@ -7,6 +7,7 @@ use osl_interp::{Given, OutRef};
 use osl_value::{Base, LayerValues, Memory, OpName, Ty, Value};
 use oso_code::{Class, Symbol};
 use std::alloc::Global;
+use std::process::Abort;
 use std::test::Fail;
 
 /// A layer of ints, and what becomes of it.
@@ -58,7 +59,7 @@ static SYMBOLS: [(Class, &str, Option<i32>); 10] = [
     (Class::Temp, "t", None),
 ];
 
-static CASES: [Case; 36] = [
+static CASES: [Case; 29] = [
     Case {
         name: "a default",
         sections: &[(None, 0, 1)],
@@ -438,8 +439,11 @@ static CASES: [Case; 36] = [
         asks: &[],
         gives: Some(3),
     },
-    // A run that waits at a loop's own condition goes on there: nothing before it is run again. What the ops add shows how
-    // often each was run.
+];
+
+/// A run that waits at a loop's own condition goes on there: nothing before it is run again. What the ops add shows how
+/// often each was run.
+static WAITS: [Case; 7] = [
     Case {
         name: "a dowhile waits at its condition, and breaks on its second turn",
         sections: &[(None, 0, 8)],
@@ -631,14 +635,22 @@ fn number(value: &Value) -> i32 {
     }
 }
 
-#[test]
-fn layers_end_as_their_code_says(rt: HostRuntime) -> Result<(), Fail> {
-    let alloc = rt.alloc();
-    for case in &CASES {
+fn all_end(rt: &impl Abort, alloc: Global, cases: &[Case]) -> Result<(), Fail> {
+    for case in cases {
         let mut asked = Vec::new(alloc);
         let gives = outcome(alloc, case, &mut asked)?;
         assert_eq!(rt; gives, case.gives, "{}", case.name);
         assert_eq!(rt; asked.as_slice(), case.asks, "{}", case.name);
     }
     Ok(())
+}
+
+#[test]
+fn layers_end_as_their_code_says(rt: HostRuntime) -> Result<(), Fail> {
+    all_end(&rt, rt.alloc(), &CASES)
+}
+
+#[test]
+fn runs_wait_at_the_conditions_of_loops(rt: HostRuntime) -> Result<(), Fail> {
+    all_end(&rt, rt.alloc(), &WAITS)
 }
