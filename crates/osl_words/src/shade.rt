@@ -89,16 +89,9 @@ fn from_oso(given: Option<&str>) -> Option<bool>
     ensures { result ≡ from_oso (option_map (λ s. s.now) given.entry) }
 {
     match given {
-        None => Some(false),
-        Some(text) => {
-            if text == "osl" {
-                Some(false)
-            } else if text == "oso" {
-                Some(true)
-            } else {
-                None
-            }
-        }
+        None | Some("osl") => Some(false),
+        Some("oso") => Some(true),
+        Some(_) => None,
     }
 }
 
