@@ -5,7 +5,7 @@ use Rattle.std.proofs.lemmas.Bool.{eq-eqb}
 use Rattle.osl_layer.specs.Layer as L
 use Rattle.oso_code.specs.declared.op.Section.{Section}
 use Rattle.oso_code.specs.declared.raw.Raw.{Raw}
-use Rattle.oso_code.specs.CodeRun.{sources_of, is_run, run_sections, given_at, given_by}
+use Rattle.oso_code.specs.CodeRun.{sources_of, is_run, run_sections, given_at, results_by}
 use Rattle.oso_code.specs.Lasting.{Lasts, Keeps}
 use Rattle.oso_code.specs.Ranges.{steps_of}
 use Rattle.oso_code.specs.Run.{State, put, note, Sources, Outcome, Next, Leaves, Spent, last, then_do, on_test, test_after, after_body, call_end, range}
@@ -151,9 +151,9 @@ run_counted old new a b E.Done h = finishes_counted old new a b h
 run_counted old new a b E.Spent h = fails_counted old new a b h
 run_counted old new a b (E.Needs p) h = goes_counted old new a b h.0
 
-ended_given : (code : Raw) (o : Outcome) (s : State) → EndsAs o s → given_at code o ≡ Some (given_by code s)
-ended_given code (Next t) s h = ap (λ x. Some (given_by code x)) h
-ended_given code (Leaves way t) s h = ap (λ x. Some (given_by code x)) h
+ended_given : (code : Raw) (o : Outcome) (s : State) → EndsAs o s → given_at code o ≡ Some (results_by code s)
+ended_given code (Next t) s h = ap (λ x. Some (results_by code x)) h
+ended_given code (Leaves way t) s h = ap (λ x. Some (results_by code x)) h
 ended_given code (Spent t) s h = absurd h
 
 pub done : (old mid new : LayerRun) (a b : ℕ) → Finishes (run_of old) (run_of mid) a b → run_of new ≡ run_of mid → AreKept (run_of new).code.symbols new.machine.slots.items → new.status ≡ T.Done → Done old new a b
@@ -163,7 +163,7 @@ done old mid new a b h is kept status =
     record {
       done = record { status = status; laid = f.laid; kept = kept };
       code = f.code;
-      given = λ inputs fits n. ended_given (run_of old).code (comes_to inputs n old) (state_of (n + (b - a)) (run_of new)) (f.ends inputs fits n) ∙ ap (λ code. Some (given_by code (state_of 0 (run_of new)))) (sym f.code);
+      given = λ inputs fits n. ended_given (run_of old).code (comes_to inputs n old) (state_of (n + (b - a)) (run_of new)) (f.ends inputs fits n) ∙ ap (λ code. Some (results_by code (state_of 0 (run_of new)))) (sym f.code);
       reads = λ inputs fits n. ap (λ s. s.reads) (ended_last (comes_to inputs n old) (state_of (n + (b - a)) (run_of new)) (f.ends inputs fits n)) ∙ ap given_reads f.inputs_stay;
       ops = λ inputs fits n. let e : (last (comes_to inputs n old)).ops ≡ n + (b - a) = ap (λ s. s.ops) (ended_last (comes_to inputs n old) (state_of (n + (b - a)) (run_of new)) (f.ends inputs fits n)) in omega (arith, e, x);
     }

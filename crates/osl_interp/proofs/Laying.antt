@@ -20,7 +20,7 @@ use Rattle.osl_interp.specs.Ready.{IsLaid}
 use Rattle.osl_interp.specs.declared.known.Known.{Known}
 use Rattle.oso_code.specs.declared.op.Op.{Op}
 use Rattle.oso_code.specs.declared.raw.Raw.{Raw}
-use Rattle.oso_code.specs.declared.raw.ShaderKind.{ShaderKind}
+use Rattle.osl_value.specs.declared.shader_kind.ShaderKind.{ShaderKind}
 use Rattle.oso_code.specs.declared.symbol.Symbol.{Symbol}
 use Rattle.oso_code.specs.Ops.{type_at, range_count, is_conditional, takes_condition, takes_arguments, takes_types, is_number_of, may_write, written, owner_at}
 use Rattle.oso_code.specs.Ranges.{steps_of}

@@ -17,7 +17,7 @@ use Rattle.oso_code.specs.CodeRun.{is_parameter_at, output_of, outputs_from}
 use Rattle.oso_code.specs.Ops.{type_at}
 use Rattle.osl_apply.specs.declared.slot.Slot.TheVariants as W
 use Rattle.osl_interp.specs.Known.{is_wired_at}
-use Rattle.osl_interp.specs.Layers.{AreKept, IsDone, IsOutput, given_of, run_of}
+use Rattle.osl_interp.specs.Layers.{AreKept, IsDone, IsOutput, results_of, run_of}
 use Rattle.osl_interp.specs.Meaning.{held_values}
 use Rattle.osl_interp.specs.Ready.{IsLaid}
 use Rattle.osl_interp.specs.declared.known.Known.{Known}
@@ -113,7 +113,7 @@ module _ (code : Raw) (known : List Known) (vs : List AnyValue) (laid : IsLaid c
       ∙ ap (λ v. Some (Some v)) (ap (held_values code known vs) e ∙ ap (λ b. if b then zero_value (type_at code.symbols p) else argument vs p) not_wired)
 
 module _ (run : LayerRun) (p : ℕ) where
-  pub output_given : (v : AnyValue) → IsDone run → IsOutput (run_of run).code p → v ≡ argument (run_of run).values p → slice_get (given_of run).outputs p ≡ Some (Some v)
+  pub output_given : (v : AnyValue) → IsDone run → IsOutput (run_of run).code p → v ≡ argument (run_of run).values p → slice_get (results_of run).outputs p ≡ Some (Some v)
   output_given v done out is =
       output_there (run_of run).code (run_of run).inputs (run_of run).values done.laid p out.0 out.1 out.2 ∙ ap (λ x. Some (Some x)) (sym is)
 

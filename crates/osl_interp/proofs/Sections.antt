@@ -6,7 +6,7 @@ use Rattle.osl_value.specs.AnyValue.{AnyValue}
 use Rattle.osl_layer.specs.Layer as L
 use Rattle.oso_code.specs.declared.op.Section.{Section}
 use Rattle.oso_code.specs.declared.raw.Raw.{Raw}
-use Rattle.oso_code.specs.declared.raw.ShaderKind.{ShaderKind}
+use Rattle.osl_value.specs.declared.shader_kind.ShaderKind.{ShaderKind}
 use Rattle.oso_code.specs.declared.symbol.Class.{Class}
 use Rattle.oso_code.specs.declared.symbol.Class.TheVariants.{Param}
 use Rattle.oso_code.specs.declared.symbol.Symbol.{Symbol}

@@ -9,7 +9,7 @@ use Rattle.oso_code.specs.CodeRun.{code_run, ops_run, given_at}
 use Rattle.oso_code.specs.Run.{Outcome, last}
 use Rattle.osl_interp.specs.declared.layer_run.LayerRun.{LayerRun}
 use Rattle.osl_interp.specs.Known.{given_reads}
-use Rattle.osl_interp.specs.Layers.{Started, Begins, Needs, Gave, Done, Spends, run_of, given_of, comes_to}
+use Rattle.osl_interp.specs.Layers.{Started, Begins, Needs, Gave, Done, Spends, run_of, results_of, comes_to}
 use Rattle.osl_interp.specs.Whole.{IsRunOf, EndsAsCode}
 
 pub starts_as_code : (code : Raw) (fixed : List (Option Plain)) (wired : List Bool) (point : Point) (budget : ℕ) (run : LayerRun) (inputs : L.Inputs)
@@ -32,22 +32,22 @@ module _ (code : Raw) (inputs : L.Inputs) (point : Point) (budget : ℕ) where
       record { code_is = gave.code ∙ of.code_is; agrees = agrees; comes = gave.same inputs agrees n ∙ of.comes }
 
   -- what a run comes to is what the code comes to
-  ends : (n a b : ℕ) (old : LayerRun) (given : Option L.Given) → IsRunOf code inputs point budget n old
+  ends : (n a b : ℕ) (old : LayerRun) (given : Option L.LayerResults) → IsRunOf code inputs point budget n old
       → given_at (run_of old).code (comes_to inputs n old) ≡ given
       → (last (comes_to inputs n old)).reads ≡ given_reads (run_of old).inputs
       → (last (comes_to inputs n old)).ops + a ≡ n + b
       → EndsAsCode code inputs point budget given (given_reads (run_of old).inputs) n a b
   unfolding code_run ops_run
   ends n a b old given of gives reads ops = record {
-    given_is = ap (given_at code) (sym of.comes) ∙ ap (λ c. given_at c (comes_to inputs n old)) (sym of.code_is) ∙ gives;
+    results_are = ap (given_at code) (sym of.comes) ∙ ap (λ c. given_at c (comes_to inputs n old)) (sym of.code_is) ∙ gives;
     reads_are = ap (λ (o : Outcome). (last o).reads) (sym of.comes) ∙ reads;
     ops_are = ap (λ (o : Outcome). (last o).ops + a) (sym of.comes) ∙ ops;
   }
 
   pub ends_as_code : (n a b : ℕ) (old new : LayerRun) → IsRunOf code inputs point budget n old → Done old new a b
-      → EndsAsCode code inputs point budget (Some (given_of new)) (given_reads (run_of old).inputs) n a b
+      → EndsAsCode code inputs point budget (Some (results_of new)) (given_reads (run_of old).inputs) n a b
   ends_as_code n a b old new of done =
-      ends n a b old (Some (given_of new)) of (done.given inputs of.agrees n) (done.reads inputs of.agrees n) (done.ops inputs of.agrees n)
+      ends n a b old (Some (results_of new)) of (done.given inputs of.agrees n) (done.reads inputs of.agrees n) (done.ops inputs of.agrees n)
 
   pub is_spent_as_code : (n a b : ℕ) (old new : LayerRun) → IsRunOf code inputs point budget n old → Spends old new a b
       → EndsAsCode code inputs point budget None (given_reads (run_of old).inputs) n a b

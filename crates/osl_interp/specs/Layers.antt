@@ -9,7 +9,7 @@ use Rattle.osl_layer.specs.Layer as L
 use Rattle.oso_code.specs.declared.raw.Raw.{Raw}
 use Rattle.oso_code.specs.declared.symbol.Class.TheVariants.{Param, Oparam}
 use Rattle.oso_code.specs.declared.symbol.Symbol.{Symbol}
-use Rattle.oso_code.specs.CodeRun.{is_parameter_at, given_at, given_by, layer_outcome}
+use Rattle.oso_code.specs.CodeRun.{is_parameter_at, given_at, results_by, layer_outcome}
 use Rattle.oso_code.specs.Ops.{type_at}
 use Rattle.oso_code.specs.Run.{Outcome, Spent, last}
 use Rattle.osl_interp.specs.Advances.{Asks, EndsAs, work}
@@ -150,8 +150,8 @@ pub record Started (code : Raw) (fixed : List (Option Plain)) (wired : List Bool
 -- ---- go
 
 -- what the run gave
-abbrev pub given_of : LayerRun → L.Given
-given_of run = given_by (run_of run).code (state_of 0 (run_of run))
+abbrev pub results_of : LayerRun → L.LayerResults
+results_of run = results_by (run_of run).code (state_of 0 (run_of run))
 
 -- the outputs are values that can be lent
 abbrev pub AreKept : List Symbol → List Slot → Type 0
@@ -166,7 +166,7 @@ pub record IsDone (run : LayerRun) : Type 0 where
 pub record Done (old new : LayerRun) (a b : ℕ) : Type 0 where
   pub done : IsDone new
   pub code : (run_of new).code ≡ (run_of old).code
-  pub given : (inputs : L.Inputs) → Agrees inputs old → (n : ℕ) → given_at (run_of old).code (comes_to inputs n old) ≡ Some (given_of new)
+  pub given : (inputs : L.Inputs) → Agrees inputs old → (n : ℕ) → given_at (run_of old).code (comes_to inputs n old) ≡ Some (results_of new)
   pub reads : (inputs : L.Inputs) → Agrees inputs old → (n : ℕ) → (last (comes_to inputs n old)).reads ≡ given_reads (run_of old).inputs
   pub ops : (inputs : L.Inputs) → Agrees inputs old → (n : ℕ) → (last (comes_to inputs n old)).ops + a ≡ n + b
 

@@ -14,7 +14,7 @@ pub record IsRunOf (code : Raw) (inputs : L.Inputs) (point : Point) (budget n : 
   pub comes : comes_to inputs n run ≡ layer_outcome code inputs point budget
 
 -- the run of the code gives this and reads these parameters, and its ops are n with those that a count rose by, from a to b
-pub record EndsAsCode (code : Raw) (inputs : L.Inputs) (point : Point) (budget : ℕ) (given : Option L.Given) (reads : ℕ → Bool) (n a b : ℕ) : Type 0 where
-  pub given_is : (code_run code inputs point budget).given ≡ given
+pub record EndsAsCode (code : Raw) (inputs : L.Inputs) (point : Point) (budget : ℕ) (results : Option L.LayerResults) (reads : ℕ → Bool) (n a b : ℕ) : Type 0 where
+  pub results_are : (code_run code inputs point budget).results ≡ results
   pub reads_are : (code_run code inputs point budget).reads ≡ reads
   pub ops_are : ops_run code inputs point budget + a ≡ n + b

@@ -8,7 +8,7 @@ ghost use Rattle.osl_layer.specs.Layer.{Inputs, From};
 ghost use Rattle.oso_code.specs.declared.raw.Raw.{Raw};
 ghost use Rattle.osl_interp.specs.declared.layer_run.LayerRun.{LayerRun};
 ghost use Rattle.osl_interp.specs.Known.{given_reads};
-ghost use Rattle.osl_interp.specs.Layers.{Started, Begins, Needs, Gave, Done, Spends, run_of, given_of};
+ghost use Rattle.osl_interp.specs.Layers.{Started, Begins, Needs, Gave, Done, Spends, run_of, results_of};
 ghost use Rattle.osl_interp.specs.Whole.{IsRunOf, EndsAsCode};
 
 /// What `start` answers is a run of its code, under all inputs that the instance values and the connections leave open.
@@ -34,7 +34,7 @@ pub fn resumes_as_code()
 pub fn ends_as_code()
     ensures { (code : Raw) (inputs : Inputs) (point : Point) (budget n a b : ℕ) (old new : LayerRun)
         → IsRunOf code inputs point budget n old → Done old new a b
-        → EndsAsCode code inputs point budget (Some (given_of new)) (given_reads (run_of old).inputs) n a b }
+        → EndsAsCode code inputs point budget (Some (results_of new)) (given_reads (run_of old).inputs) n a b }
 {}
 
 /// Where it is spent, the code gives nothing, and the same holds of parameters and ops.

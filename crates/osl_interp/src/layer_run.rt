@@ -4,7 +4,7 @@ ghost use Rattle.std.specs.Prelude.{◌≡◌, ◌+◌, Some, None, slice_get, I
 ghost use Rattle.osl_value.specs.AnyValue.{type_of};
 ghost use Rattle.osl_apply.specs.Slots.{seen};
 ghost use Rattle.oso_code.specs.Ops.{type_at};
-ghost use Rattle.osl_interp.specs.Layers.{InputsFit, Started, IsReady, IsAsking, IsDone, GoDone, Gave, begins, input_of, HasType, IsOutput, Counted, seen_output, given_of, run_of};
+ghost use Rattle.osl_interp.specs.Layers.{InputsFit, Started, IsReady, IsAsking, IsDone, GoDone, Gave, begins, input_of, HasType, IsOutput, Counted, seen_output, results_of, run_of};
 
 use crate::known::Known;
 use crate::machine::Machine;
@@ -165,7 +165,7 @@ impl<'a> LayerRun<'a> {
     pub fn output(&self, param: u32) -> OutRef<'_, 'a>
         requires done { IsDone self.now }
         requires output { IsOutput (run_of self.now).code param }
-        ensures { slice_get (given_of self.now).outputs param ≡ Some (Some (seen_output result)) }
+        ensures { slice_get (results_of self.now).outputs param ≡ Some (Some (seen_output result)) }
     {
         match &self.machine.slots[param as usize] {
             Slot::Whole(value) => OutRef::Value(value),
@@ -178,7 +178,7 @@ impl<'a> LayerRun<'a> {
     /// The closure of the layer, of a run that is done.
     pub fn ci(&self) -> Node<'a>
         requires { IsDone self.now }
-        ensures { result ≡ (given_of self.now).closure }
+        ensures { result ≡ (results_of self.now).closure }
     {
         closure_of(self.machine.code.symbols.as_slice(), &self.machine.slots)
     }

@@ -22,8 +22,8 @@ use Rattle.osl_lex.proofs.SomeReading.{some_reading_of}
 use Rattle.osl_parse.specs.declared.error.SyntaxError.{SyntaxError}
 use Rattle.osl_parse.specs.declared.error.SyntaxError.TheVariants as errors
 use Rattle.osl_parse.specs.Reads.{IsNoTree}
-use Rattle.osl_parse.specs.Within.{LieWithin}
-use Rattle.osl_parse.proofs.Found.{lie_within}
+use Rattle.osl_tree.specs.Sources.{LieWithin}
+use Rattle.osl_tree.proofs.Within.{lie_within}
 use Rattle.osl_typing.specs.declared.error.TypeError.{TypeError}
 use Rattle.osl_typing.specs.declared.error.TypeError.TheVariants as types
 use Rattle.osl_job.specs.declared.source.Source.{Source}

@@ -3,9 +3,9 @@ use Rattle.std.specs.Prelude.{◌≡◌, ℕ, zero, suc, true, if◌then◌else�
 use Rattle.std.specs.List.{list_all}
 use Rattle.osl_value.specs.Numbers.{fx_from_int}
 use Rattle.osl_tree.specs.declared.token.Punct.TheVariants as p
-use Rattle.osl_tree.specs.declared.mark.Keyword.TheVariants as w
-use Rattle.osl_tree.specs.declared.mark.Mark.{Mark}
-use Rattle.osl_tree.specs.declared.mark.Mark.TheVariants as m
+use Rattle.osl_tree.specs.declared.terminal.Keyword.TheVariants as w
+use Rattle.osl_tree.specs.declared.terminal.Terminal.{Terminal}
+use Rattle.osl_tree.specs.declared.terminal.Terminal.TheVariants as m
 use Rattle.osl_tree.specs.Lexeme.{Lexeme}
 use Rattle.osl_tree.specs.Lexeme as l
 use Rattle.osl_tree.specs.Parser.{Parser, ◌>>=◌, ◌>>◌, pure, eat, expect, first, rest, name_of, required, take_as}
@@ -43,7 +43,7 @@ float_of (Some (l.name bytes)) = None
 float_of (Some (l.int n)) = None
 float_of (Some (l.float units)) = Some units
 float_of (Some (l.text bytes)) = None
-float_of (Some (l.mark mark)) = None
+float_of (Some (l.terminal mark)) = None
 
 -- a float, or an int taken as a float
 abbrev pub number_of : Option Lexeme → Option ℤ
@@ -52,7 +52,7 @@ number_of (Some (l.name bytes)) = None
 number_of (Some (l.int n)) = Some (fx_from_int n)
 number_of (Some (l.float units)) = Some units
 number_of (Some (l.text bytes)) = None
-number_of (Some (l.mark mark)) = None
+number_of (Some (l.terminal mark)) = None
 
 -- ---- parameters
 
@@ -90,7 +90,7 @@ variable_or None None = None
 abbrev pub operand_of : List Param → Option Lexeme → Option Expr
 operand_of params found = variable_or (option_and_then (param_named params) (name_of found)) (float_of found)
 
-abbrev pub sign_of : Mark → Option SumOp
+abbrev pub sign_of : Terminal → Option SumOp
 sign_of (m.Punct p.Plus) = Some Add
 sign_of (m.Punct p.Minus) = Some Sub
 sign_of (m.Punct _) = None

@@ -5,7 +5,7 @@ ghost use Rattle.std.specs.List.{list_all};
 ghost use Rattle.osl_tree.specs.Lexemes.{lexemes};
 ghost use Rattle.osl_tree.specs.Parser.{first, take_as};
 ghost use Rattle.osl_job.specs.SmallNames.{fits, assignment_fits, output_named, is_tied};
-ghost use Rattle.osl_parse.specs.Within.{LieWithin};
+ghost use Rattle.osl_tree.specs.Sources.{LieWithin};
 ghost use Rattle.osl_job.specs.Reader.{Reads, ReadsWhole, OnlyMemory};
 ghost use Rattle.osl_job.specs.Small as spec;
 ghost use Rattle.osl_job.specs.Small.{AreTied};
@@ -13,7 +13,7 @@ ghost use Rattle.osl_job.specs.Small.{AreTied};
 use crate::small::{Assignment, Expr, Param, SmallShader, SumOp, find_output, find_param};
 use crate::text::Stop;
 use crate::tokens::Tokens;
-use osl_tree::mark::{Keyword, Mark};
+use osl_tree::terminal::{Keyword, Terminal};
 use osl_tree::token::{Punct, Token};
 use osl_value::Fx;
 use sqlite_items::{Boxed, Items};
@@ -52,12 +52,12 @@ fn shader(alloc: Global, tokens: &mut Tokens<'_>) -> Result<SmallShader, Stop>
     ensures tied { IfOk result (λ t. is_tied t ≡ true) }
     ensures few { IfOk result (λ t. length t.params ≤ 16) }
 {
-    tokens.expect(Mark::Keyword(Keyword::Shader))?;
+    tokens.expect(Terminal::Keyword(Keyword::Shader))?;
     let name = new_name(alloc, tokens, &[])?;
-    tokens.expect(Mark::Punct(Punct::OpenParen))?;
+    tokens.expect(Terminal::Punct(Punct::OpenParen))?;
     let params = params(alloc, tokens)?;
-    tokens.expect(Mark::Punct(Punct::CloseParen))?;
-    tokens.expect(Mark::Punct(Punct::OpenBrace))?;
+    tokens.expect(Terminal::Punct(Punct::CloseParen))?;
+    tokens.expect(Terminal::Punct(Punct::OpenBrace))?;
     let body = assignments(alloc, tokens, params.as_slice(), ASSIGNMENTS)?;
     Ok(SmallShader { name, params, body })
 }
@@ -90,7 +90,7 @@ fn more_params(
 {
     let mut params = first;
     for _turn in 0..room {
-        if !tokens.eat(Mark::Punct(Punct::Comma)) {
+        if !tokens.eat(Terminal::Punct(Punct::Comma)) {
             return Ok(params);
         }
         match param(alloc, tokens, params.as_slice()) {
@@ -107,10 +107,10 @@ fn param(alloc: Global, tokens: &mut Tokens<'_>, before: &[Param]) -> Result<Par
     ensures read { Reads (spec.param before.now tokens.old) result tokens.new }
     ensures tied { IfOk result (λ p. AreTied (p ∷ [])) }
 {
-    let output = tokens.eat(Mark::Keyword(Keyword::Output));
-    tokens.expect(Mark::Keyword(Keyword::Float))?;
+    let output = tokens.eat(Terminal::Keyword(Keyword::Output));
+    tokens.expect(Terminal::Keyword(Keyword::Float))?;
     let name = new_name(alloc, tokens, before)?;
-    tokens.expect(Mark::Punct(Punct::Assign))?;
+    tokens.expect(Terminal::Punct(Punct::Assign))?;
     let value = number(tokens)?;
     Ok(Param {
         name,
@@ -159,13 +159,13 @@ fn assignments(
 {
     let mut body = Items::new(alloc);
     for _turn in 0..room {
-        if tokens.eat(Mark::Punct(Punct::CloseBrace)) {
+        if tokens.eat(Terminal::Punct(Punct::CloseBrace)) {
             return Ok(body);
         }
         let next = assignment(alloc, tokens, params)?;
         body.push(next)?;
     }
-    tokens.expect(Mark::Punct(Punct::CloseBrace))?;
+    tokens.expect(Terminal::Punct(Punct::CloseBrace))?;
     Ok(body)
 }
 
@@ -175,9 +175,9 @@ fn assignment(alloc: Global, tokens: &mut Tokens<'_>, params: &[Param]) -> Resul
     ensures tied { IfOk result (λ a. assignment_fits (length params.now) a ≡ true) }
 {
     let target = target(tokens, params)?;
-    tokens.expect(Mark::Punct(Punct::Assign))?;
+    tokens.expect(Terminal::Punct(Punct::Assign))?;
     let value = sum(alloc, tokens, params)?;
-    tokens.expect(Mark::Punct(Punct::Semicolon))?;
+    tokens.expect(Terminal::Punct(Punct::Semicolon))?;
     Ok(Assignment { target, value })
 }
 
@@ -249,12 +249,12 @@ fn eat_sign(tokens: &mut Tokens<'_>) -> Option<SumOp>
     Some(op)
 }
 
-fn sign_of(mark: Mark) -> Option<SumOp>
+fn sign_of(mark: Terminal) -> Option<SumOp>
     ensures { result ≡ spec.sign_of mark }
 {
     match mark {
-        Mark::Punct(Punct::Plus) => Some(SumOp::Add),
-        Mark::Punct(Punct::Minus) => Some(SumOp::Sub),
+        Terminal::Punct(Punct::Plus) => Some(SumOp::Add),
+        Terminal::Punct(Punct::Minus) => Some(SumOp::Sub),
         _ => None,
     }
 }

@@ -3,7 +3,7 @@
 ghost use Rattle.std.specs.Prelude.{◌≡◌, ◌≤◌, true, length, IfOk};
 ghost use Rattle.osl_tree.specs.Lexemes.{lexemes};
 ghost use Rattle.osl_job.specs.SmallNames.{is_tied};
-ghost use Rattle.osl_parse.specs.Within.{LieWithin};
+ghost use Rattle.osl_tree.specs.Sources.{LieWithin};
 ghost use Rattle.osl_job.specs.Small.{small_shader};
 ghost use Rattle.osl_job.specs.Source as spec;
 ghost use Rattle.osl_job.specs.Source.{IsSource, IfShader};

@@ -4,12 +4,12 @@ ghost use Rattle.std.specs.Prelude.{◌≡◌};
 ghost use Rattle.std.specs.Option.{option_map};
 ghost use Rattle.osl_tree.specs.Lexemes.{lexemes};
 ghost use Rattle.osl_tree.specs.Parser as parser;
-ghost use Rattle.osl_parse.specs.Within.{LieWithin};
+ghost use Rattle.osl_tree.specs.Sources.{LieWithin};
 ghost use Rattle.osl_job.specs.Reader.{Reads, is_end};
 ghost use Rattle.osl_job.specs.Small as spec;
 
 use crate::text::Stop;
-use osl_tree::mark::{Keyword, Mark};
+use osl_tree::terminal::{Keyword, Terminal};
 use osl_tree::token::{Token, TokenKind};
 use osl_value::Fx;
 use std::marker::Model;
@@ -24,7 +24,7 @@ impl<'a> Model for Tokens<'a> {
     ghost use Rattle.std.specs.Prelude.{List};
     ghost use Rattle.osl_tree.specs.Lexeme.{Lexeme};
     ghost use Rattle.osl_tree.specs.Lexemes.{lexemes};
-    ghost use Rattle.osl_parse.specs.Within.{LieWithin};
+    ghost use Rattle.osl_tree.specs.Sources.{LieWithin};
 
     ghost Value = { List Lexeme };
 
@@ -61,8 +61,8 @@ impl<'a> Tokens<'a> {
     }
 
     /// The mark or the reserved word that comes next.
-    pub fn mark(&self) -> Option<Mark>
-        ensures { result ≡ parser.of_mark Some (parser.first self.now) }
+    pub fn mark(&self) -> Option<Terminal>
+        ensures { result ≡ parser.of_terminal Some (parser.first self.now) }
     {
         let [token, ..] = self.rest else {
             return None;
@@ -71,11 +71,11 @@ impl<'a> Tokens<'a> {
             TokenKind::Word => {
                 let text = &self.source[token.start as usize..token.end as usize];
                 match Keyword::of(text) {
-                    Some(word) => Some(Mark::Keyword(word)),
+                    Some(word) => Some(Terminal::Keyword(word)),
                     None => None,
                 }
             }
-            TokenKind::Punct(mark) => Some(Mark::Punct(mark)),
+            TokenKind::Punct(mark) => Some(Terminal::Punct(mark)),
             _ => None,
         }
     }
@@ -125,7 +125,7 @@ impl<'a> Tokens<'a> {
     }
 
     #[tactic(auto, unfolding(osl_tree::specs::Parser::sees))]
-    fn sees(&self, mark: Mark) -> bool
+    fn sees(&self, mark: Terminal) -> bool
         ensures { result ≡ parser.sees mark self.now }
     {
         match self.mark() {
@@ -135,7 +135,7 @@ impl<'a> Tokens<'a> {
     }
 
     /// Takes a mark, if it comes next.
-    pub fn eat(&mut self, mark: Mark) -> bool
+    pub fn eat(&mut self, mark: Terminal) -> bool
         ensures { parser.eat mark self.old ≡ Some (result, self.new) }
     {
         let sees = self.sees(mark);
@@ -147,7 +147,7 @@ impl<'a> Tokens<'a> {
 
     /// Takes a mark, which must come next.
     #[tactic(auto, unfolding(osl_tree::specs::Parser::expect))]
-    pub fn expect(&mut self, mark: Mark) -> Result<(), Stop>
+    pub fn expect(&mut self, mark: Terminal) -> Result<(), Stop>
         ensures { Reads (parser.expect mark self.old) result self.new }
     {
         if !self.sees(mark) {

@@ -5,5 +5,6 @@
 #![tactic(auto)]
 
 pub mod global;
+pub mod laws;
 
 pub use global::GlobalName;

@@ -1,7 +1,7 @@
 -- What a scope keeps of one before it, and who may assign global variables.
 use Rattle.std.specs.Prelude.{◌≡◌, Bool, false, List, ◌++◌, Option, Some, None}
 use Rattle.osl_layer.specs.declared.global.GlobalName.{GlobalName}
-use Rattle.osl_tree.specs.declared.tree.ShaderKind.{ShaderKind}
+use Rattle.osl_value.specs.declared.shader_kind.ShaderKind.{ShaderKind}
 use Rattle.osl_typed.specs.declared.found.Binding.{Binding}
 use Rattle.osl_typed.specs.Scopes.{Scope, is_assignable_global}
 

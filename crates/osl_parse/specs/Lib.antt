@@ -1,4 +1,3 @@
 pub mod Reads
-pub mod Within
 pub mod Bytes
 pub mod Nests

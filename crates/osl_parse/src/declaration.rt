@@ -12,8 +12,8 @@ use crate::expr::{expr, node};
 use crate::list::{Listed, list};
 use crate::tokens::Tokens;
 use osl_tree::expr::Expr;
-use osl_tree::mark::Mark;
 use osl_tree::stmt::{Declaration, ForStart, Init, Item, Var};
+use osl_tree::terminal::Terminal;
 use osl_tree::token::Punct;
 use sqlite_items::Items;
 use std::alloc::Global;
@@ -24,11 +24,11 @@ pub fn item(alloc: Global, tokens: &mut Tokens<'_>) -> Result<(Item, u32), Synta
     ensures { Reads (spec.item tokens.old) result tokens.new }
 {
     let name = tokens.name(alloc)?;
-    if !tokens.eat(Mark::Punct(Punct::OpenBracket)) {
+    if !tokens.eat(Terminal::Punct(Punct::OpenBracket)) {
         return Ok((Item { name, len: None }, 1));
     }
     let len = tokens.int()?;
-    tokens.expect(Mark::Punct(Punct::CloseBracket))?;
+    tokens.expect(Terminal::Punct(Punct::CloseBracket))?;
     Ok((
         Item {
             name,
@@ -52,12 +52,12 @@ pub fn init(alloc: Global, tokens: &mut Tokens<'_>, room: u32) -> Result<(Init, 
     requires { room < 256 }
     ensures { Reads (spec.init room tokens.old) result tokens.new }
 {
-    if !tokens.eat(Mark::Punct(Punct::OpenBrace)) {
+    if !tokens.eat(Terminal::Punct(Punct::OpenBrace)) {
         let (value, height) = expr(alloc, tokens, room, 0)?;
         return Ok((Init::Expr(value), height));
     }
     let (values, height) = list(alloc, tokens, room)?;
-    tokens.expect(Mark::Punct(Punct::CloseBrace))?;
+    tokens.expect(Terminal::Punct(Punct::CloseBrace))?;
     let height = node(room, height)?;
     Ok((Init::List(values), height))
 }
@@ -68,7 +68,7 @@ impl Listed for Var {
     #[tactic(auto, unfolding(osl_tree::specs::StatementReading::var))]
     fn read(alloc: Global, tokens: &mut Tokens<'_>, room: u32) -> Result<(Var, u32), SyntaxError> {
         let (item, first) = item(alloc, tokens)?;
-        if !tokens.eat(Mark::Punct(Punct::Assign)) {
+        if !tokens.eat(Terminal::Punct(Punct::Assign)) {
             return Ok((Var { item, init: None }, first));
         }
         let (value, second) = init(alloc, tokens, room)?;
@@ -95,7 +95,7 @@ pub fn declaration(
 {
     let (ty, first) = tokens.type_name(alloc)?;
     let (vars, second) = list(alloc, tokens, room)?;
-    tokens.expect(Mark::Punct(Punct::Semicolon))?;
+    tokens.expect(Terminal::Punct(Punct::Semicolon))?;
     let height = node(room, first.max(second))?;
     Ok((Declaration { ty, vars }, height))
 }
@@ -106,7 +106,7 @@ pub fn maybe(
     alloc: Global,
     tokens: &mut Tokens<'_>,
     room: u32,
-    close: Mark,
+    close: Terminal,
 ) -> Result<(Option<Expr>, u32), SyntaxError>
     requires { room < 256 }
     ensures { Reads (spec.maybe room close tokens.old) result tokens.new }
@@ -128,9 +128,9 @@ pub fn condition(
     requires { room < 256 }
     ensures { Reads (spec.condition room tokens.old) result tokens.new }
 {
-    tokens.expect(Mark::Punct(Punct::OpenParen))?;
+    tokens.expect(Terminal::Punct(Punct::OpenParen))?;
     let found = expr(alloc, tokens, room, 0)?;
-    tokens.expect(Mark::Punct(Punct::CloseParen))?;
+    tokens.expect(Terminal::Punct(Punct::CloseParen))?;
     Ok(found)
 }
 
@@ -144,7 +144,7 @@ pub fn for_start(
     requires { room < 256 }
     ensures { Reads (spec.for_start room tokens.old) result tokens.new }
 {
-    if tokens.eat(Mark::Punct(Punct::Semicolon)) {
+    if tokens.eat(Terminal::Punct(Punct::Semicolon)) {
         return Ok((ForStart::Nothing, 1));
     }
     if tokens.declares() {
@@ -152,6 +152,6 @@ pub fn for_start(
         return Ok((ForStart::Declare(found), height));
     }
     let (found, height) = expr(alloc, tokens, room, 0)?;
-    tokens.expect(Mark::Punct(Punct::Semicolon))?;
+    tokens.expect(Terminal::Punct(Punct::Semicolon))?;
     Ok((ForStart::Expr(found), height))
 }

@@ -10,7 +10,7 @@ ghost use Rattle.osl_parse.specs.Nests.{Nests};
 use crate::error::SyntaxError;
 use crate::tokens::Tokens;
 use osl_tree::expr::{AssignOp, BaseType, BinaryOp, Expr, PostfixOp, Suffix};
-use osl_tree::mark::Mark;
+use osl_tree::terminal::Terminal;
 use osl_tree::token::Punct;
 use sqlite_items::{Boxed, Items};
 use std::alloc::{AllocError, Global};
@@ -92,7 +92,7 @@ impl<F: Fn(Global, &mut Tokens<'_>, u32, u8) -> Result<(Expr, u32), SyntaxError>
             let (item, its_height) = self.part(tokens, 0)?;
             items.push(item)?;
             height = height.max(its_height);
-            if !tokens.eat(Mark::Punct(Punct::Comma)) {
+            if !tokens.eat(Terminal::Punct(Punct::Comma)) {
                 return Ok((items, height));
             }
         }
@@ -105,12 +105,12 @@ impl<F: Fn(Global, &mut Tokens<'_>, u32, u8) -> Result<(Expr, u32), SyntaxError>
         requires { Nests self.now.room (F.pre self.now.expr) (F.post self.now.expr) }
         ensures { Reads (spec.arguments (spec.expr self.now.room) self.now.room tokens.old) result tokens.new }
     {
-        tokens.expect(Mark::Punct(Punct::OpenParen))?;
-        if tokens.eat(Mark::Punct(Punct::CloseParen)) {
+        tokens.expect(Terminal::Punct(Punct::OpenParen))?;
+        if tokens.eat(Terminal::Punct(Punct::CloseParen)) {
             return Ok((Items::new(self.alloc), 1));
         }
         let found = self.list(tokens)?;
-        tokens.expect(Mark::Punct(Punct::CloseParen))?;
+        tokens.expect(Terminal::Punct(Punct::CloseParen))?;
         Ok(found)
     }
 
@@ -120,7 +120,7 @@ impl<F: Fn(Global, &mut Tokens<'_>, u32, u8) -> Result<(Expr, u32), SyntaxError>
         requires { Nests self.now.room (F.pre self.now.expr) (F.post self.now.expr) }
         ensures { Reads (spec.word (spec.expr self.now.room) self.now.room name tokens.old) result tokens.new }
     {
-        if !tokens.sees(Mark::Punct(Punct::OpenParen)) {
+        if !tokens.sees(Terminal::Punct(Punct::OpenParen)) {
             return Ok((Expr::Name(name), 1));
         }
         let (arguments, height) = self.arguments(tokens)?;
@@ -135,7 +135,7 @@ impl<F: Fn(Global, &mut Tokens<'_>, u32, u8) -> Result<(Expr, u32), SyntaxError>
         ensures { Reads (spec.parenthesised (spec.expr self.now.room) self.now.room tokens.old) result tokens.new }
     {
         let (inside, height) = self.part(tokens, 0)?;
-        tokens.expect(Mark::Punct(Punct::CloseParen))?;
+        tokens.expect(Terminal::Punct(Punct::CloseParen))?;
         let height = self.node(height)?;
         Ok((Expr::Paren(Boxed::new(self.alloc, inside)?), height))
     }
@@ -149,7 +149,7 @@ impl<F: Fn(Global, &mut Tokens<'_>, u32, u8) -> Result<(Expr, u32), SyntaxError>
             let name = tokens.name(self.alloc)?;
             return self.word(tokens, name);
         }
-        tokens.expect(Mark::Punct(Punct::OpenParen))?;
+        tokens.expect(Terminal::Punct(Punct::OpenParen))?;
         self.parenthesised(tokens)
     }
 
@@ -177,7 +177,7 @@ impl<F: Fn(Global, &mut Tokens<'_>, u32, u8) -> Result<(Expr, u32), SyntaxError>
     {
         let (x, first) = found;
         let (y, second) = self.part(tokens, 0)?;
-        tokens.expect(Mark::Punct(Punct::CloseBracket))?;
+        tokens.expect(Terminal::Punct(Punct::CloseBracket))?;
         let height = self.node(first.max(second))?;
         let indexed = Expr::Index(Boxed::new(self.alloc, x)?, Boxed::new(self.alloc, y)?);
         Ok((indexed, height))
@@ -296,12 +296,12 @@ impl<F: Fn(Global, &mut Tokens<'_>, u32, u8) -> Result<(Expr, u32), SyntaxError>
         requires { Nests self.now.room (F.pre self.now.expr) (F.post self.now.expr) }
         ensures { Reads (spec.chosen (spec.expr self.now.room) self.now.room found tokens.old) result tokens.new }
     {
-        if !tokens.eat(Mark::Punct(Punct::Question)) {
+        if !tokens.eat(Terminal::Punct(Punct::Question)) {
             return Ok(found);
         }
         let (x, first) = found;
         let (y, second) = self.part(tokens, 0)?;
-        tokens.expect(Mark::Punct(Punct::Colon))?;
+        tokens.expect(Terminal::Punct(Punct::Colon))?;
         let (z, third) = self.part(tokens, 1)?;
         let height = self.node(first.max(second.max(third)))?;
         Ok((choice(self.alloc, x, y, z)?, height))

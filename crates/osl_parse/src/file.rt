@@ -13,12 +13,11 @@ use crate::expr::node;
 use crate::list::{Listed, list, trailed};
 use crate::stmt::body;
 use crate::tokens::Tokens;
-use osl_tree::mark::{Keyword, Mark};
 use osl_tree::stmt::{Item, TypeName};
+use osl_tree::terminal::{Keyword, Terminal};
 use osl_tree::token::Punct;
-use osl_tree::tree::{
-    Datum, Definition, Fields, Formal, Function, Param, Shader, ShaderKind, Structure, Tree,
-};
+use osl_tree::tree::{Datum, Definition, Fields, Formal, Function, Param, Shader, Structure, Tree};
+use osl_value::ShaderKind;
 use sqlite_items::Items;
 use std::alloc::Global;
 
@@ -42,12 +41,12 @@ fn fields(alloc: Global, tokens: &mut Tokens<'_>) -> Result<(Items<Fields>, u32)
     let mut fields = Items::new(alloc);
     let mut height = 1;
     for _turn in 0..tokens.len() {
-        if tokens.eat(Mark::Punct(Punct::CloseBrace)) {
+        if tokens.eat(Terminal::Punct(Punct::CloseBrace)) {
             return Ok((fields, height));
         }
         let (ty, first) = tokens.type_name(alloc)?;
         let (items, second) = list(alloc, tokens, 0)?;
-        tokens.expect(Mark::Punct(Punct::Semicolon))?;
+        tokens.expect(Terminal::Punct(Punct::Semicolon))?;
         fields.push(Fields { ty, items })?;
         height = height.max(first.max(second));
     }
@@ -65,9 +64,9 @@ fn structure(
     ensures { Reads (spec.structure room tokens.old) result tokens.new }
 {
     let name = tokens.name(alloc)?;
-    tokens.expect(Mark::Punct(Punct::OpenBrace))?;
+    tokens.expect(Terminal::Punct(Punct::OpenBrace))?;
     let (fields, height) = fields(alloc, tokens)?;
-    tokens.expect(Mark::Punct(Punct::Semicolon))?;
+    tokens.expect(Terminal::Punct(Punct::Semicolon))?;
     let height = node(room, height)?;
     Ok((Structure { name, fields }, height))
 }
@@ -81,7 +80,7 @@ impl Listed for Formal {
         tokens: &mut Tokens<'_>,
         room: u32,
     ) -> Result<(Formal, u32), SyntaxError> {
-        let output = tokens.eat(Mark::Keyword(Keyword::Output));
+        let output = tokens.eat(Terminal::Keyword(Keyword::Output));
         let (ty, first) = tokens.type_name(alloc)?;
         let (item, second) = item(alloc, tokens)?;
         let height = node(room, first.max(second))?;
@@ -98,7 +97,7 @@ fn formals(
     requires { room < 256 }
     ensures { Reads (spec.formals room tokens.old) result tokens.new }
 {
-    if tokens.sees(Mark::Punct(Punct::CloseParen)) {
+    if tokens.sees(Terminal::Punct(Punct::CloseParen)) {
         return Ok((Items::new(alloc), 1));
     }
     list(alloc, tokens, room)
@@ -109,7 +108,7 @@ fn formals(
 fn returns(alloc: Global, tokens: &mut Tokens<'_>) -> Result<(Option<TypeName>, u32), SyntaxError>
     ensures { Reads (spec.returns tokens.old) result tokens.new }
 {
-    if tokens.eat(Mark::Keyword(Keyword::Void)) {
+    if tokens.eat(Terminal::Keyword(Keyword::Void)) {
         return Ok((None, 1));
     }
     let (ty, height) = tokens.type_name(alloc)?;
@@ -127,9 +126,9 @@ fn function(
 {
     let (result_type, first) = returns(alloc, tokens)?;
     let name = tokens.name(alloc)?;
-    tokens.expect(Mark::Punct(Punct::OpenParen))?;
+    tokens.expect(Terminal::Punct(Punct::OpenParen))?;
     let (formals, second) = formals(alloc, tokens, room)?;
-    tokens.expect(Mark::Punct(Punct::CloseParen))?;
+    tokens.expect(Terminal::Punct(Punct::CloseParen))?;
     let (body, third) = body(alloc, tokens, room)?;
     let height = node(room, first.max(second.max(third)))?;
     Ok((
@@ -152,7 +151,7 @@ fn definition(
     requires { room < 256 }
     ensures { Reads (spec.definition room tokens.old) result tokens.new }
 {
-    if tokens.eat(Mark::Keyword(Keyword::Struct)) {
+    if tokens.eat(Terminal::Keyword(Keyword::Struct)) {
         let (found, height) = structure(alloc, tokens, room)?;
         return Ok((Definition::Structure(found), height));
     }
@@ -171,7 +170,7 @@ impl Listed for Datum {
     ) -> Result<(Datum, u32), SyntaxError> {
         let (ty, first) = tokens.type_name(alloc)?;
         let (item, second) = item(alloc, tokens)?;
-        tokens.expect(Mark::Punct(Punct::Assign))?;
+        tokens.expect(Terminal::Punct(Punct::Assign))?;
         let (init, third) = init(alloc, tokens, room)?;
         let height = node(room, first.max(second.max(third)))?;
         Ok((Datum { ty, item, init }, height))
@@ -188,12 +187,12 @@ fn metadata(
     requires { room < 256 }
     ensures { Reads (spec.metadata room tokens.old) result tokens.new }
 {
-    if !tokens.eat(Mark::Punct(Punct::OpenMeta)) {
+    if !tokens.eat(Terminal::Punct(Punct::OpenMeta)) {
         return Ok((Items::new(alloc), 1));
     }
-    let (data, height) = trailed(alloc, tokens, room, Mark::Punct(Punct::CloseBracket))?;
-    tokens.expect(Mark::Punct(Punct::CloseBracket))?;
-    tokens.expect(Mark::Punct(Punct::CloseBracket))?;
+    let (data, height) = trailed(alloc, tokens, room, Terminal::Punct(Punct::CloseBracket))?;
+    tokens.expect(Terminal::Punct(Punct::CloseBracket))?;
+    tokens.expect(Terminal::Punct(Punct::CloseBracket))?;
     let height = node(room, height)?;
     Ok((data, height))
 }
@@ -207,10 +206,10 @@ impl Listed for Param {
         tokens: &mut Tokens<'_>,
         room: u32,
     ) -> Result<(Param, u32), SyntaxError> {
-        let output = tokens.eat(Mark::Keyword(Keyword::Output));
+        let output = tokens.eat(Terminal::Keyword(Keyword::Output));
         let (ty, first) = tokens.type_name(alloc)?;
         let (item, second) = item(alloc, tokens)?;
-        tokens.expect(Mark::Punct(Punct::Assign))?;
+        tokens.expect(Terminal::Punct(Punct::Assign))?;
         let (init, third) = init(alloc, tokens, room)?;
         let (metadata, fourth) = metadata(alloc, tokens, room)?;
         let height = node(room, first.max(second).max(third.max(fourth)))?;
@@ -236,10 +235,10 @@ fn params(
     requires { room < 256 }
     ensures { Reads (spec.params room tokens.old) result tokens.new }
 {
-    if tokens.sees(Mark::Punct(Punct::CloseParen)) {
+    if tokens.sees(Terminal::Punct(Punct::CloseParen)) {
         return Ok((Items::new(alloc), 1));
     }
-    trailed(alloc, tokens, room, Mark::Punct(Punct::CloseParen))
+    trailed(alloc, tokens, room, Terminal::Punct(Punct::CloseParen))
 }
 
 /// A shader behind its kind.
@@ -255,9 +254,9 @@ fn shader(
 {
     let name = tokens.name(alloc)?;
     let (metadata, first) = metadata(alloc, tokens, room)?;
-    tokens.expect(Mark::Punct(Punct::OpenParen))?;
+    tokens.expect(Terminal::Punct(Punct::OpenParen))?;
     let (params, second) = params(alloc, tokens, room)?;
-    tokens.expect(Mark::Punct(Punct::CloseParen))?;
+    tokens.expect(Terminal::Punct(Punct::CloseParen))?;
     let (body, third) = body(alloc, tokens, room)?;
     let height = node(room, first.max(second.max(third)))?;
     Ok((

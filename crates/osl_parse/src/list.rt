@@ -6,7 +6,7 @@ ghost use Rattle.osl_parse.specs.Reads.{Reads};
 
 use crate::error::SyntaxError;
 use crate::tokens::Tokens;
-use osl_tree::mark::Mark;
+use osl_tree::terminal::Terminal;
 use osl_tree::token::Punct;
 use sqlite_items::Items;
 use std::alloc::Global;
@@ -41,7 +41,7 @@ pub fn list<T: Listed>(
         let (item, its_height) = T::read(alloc, tokens, room)?;
         items.push(item)?;
         height = height.max(its_height);
-        if !tokens.eat(Mark::Punct(Punct::Comma)) {
+        if !tokens.eat(Terminal::Punct(Punct::Comma)) {
             return Ok((items, height));
         }
     }
@@ -54,7 +54,7 @@ pub fn trailed<T: Listed>(
     alloc: Global,
     tokens: &mut Tokens<'_>,
     room: u32,
-    close: Mark,
+    close: Terminal,
 ) -> Result<(Items<T>, u32), SyntaxError>
     requires { room < 256 }
     ensures { Reads (parser.trailed close (T.reading room) tokens.old) result tokens.new }
@@ -65,7 +65,7 @@ pub fn trailed<T: Listed>(
         let (item, its_height) = T::read(alloc, tokens, room)?;
         items.push(item)?;
         height = height.max(its_height);
-        if !tokens.eat(Mark::Punct(Punct::Comma)) {
+        if !tokens.eat(Terminal::Punct(Punct::Comma)) {
             return Ok((items, height));
         }
         if tokens.sees(close) {

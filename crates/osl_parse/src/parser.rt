@@ -7,7 +7,7 @@ ghost use Rattle.osl_tree.specs.Lexemes.{lexemes};
 ghost use Rattle.osl_tree.specs.Files.{Spells};
 ghost use Rattle.osl_tree.specs.FileReading.{parsed};
 ghost use Rattle.osl_parse.specs.Reads.{Parses, IsNoTree};
-ghost use Rattle.osl_parse.specs.Within.{LieWithin};
+ghost use Rattle.osl_tree.specs.Sources.{LieWithin};
 
 use crate::error::SyntaxError;
 use crate::file::source as read_source;

@@ -14,8 +14,8 @@ use crate::error::SyntaxError;
 use crate::expr::{expr, node};
 use crate::tokens::Tokens;
 use osl_tree::expr::Expr;
-use osl_tree::mark::{Keyword, Mark};
 use osl_tree::stmt::{Start, Stmt};
+use osl_tree::terminal::{Keyword, Terminal};
 use osl_tree::token::Punct;
 use sqlite_items::{Boxed, Items};
 use std::alloc::Global;
@@ -74,7 +74,7 @@ impl<F: Fn(Global, &mut Tokens<'_>, u32) -> Result<(Stmt, u32), SyntaxError>> St
     fn maybe(
         &self,
         tokens: &mut Tokens<'_>,
-        close: Mark,
+        close: Terminal,
     ) -> Result<(Option<Expr>, u32), SyntaxError>
         requires { NestsStmt self.now.room (F.pre self.now.stmt) (F.post self.now.stmt) }
         ensures { Reads (spec.maybe self.now.room close tokens.old) result tokens.new }
@@ -91,7 +91,7 @@ impl<F: Fn(Global, &mut Tokens<'_>, u32) -> Result<(Stmt, u32), SyntaxError>> St
         let mut all = Items::new(self.alloc);
         let mut height = 1;
         for _turn in 0..tokens.len() {
-            if tokens.eat(Mark::Punct(Punct::CloseBrace)) {
+            if tokens.eat(Terminal::Punct(Punct::CloseBrace)) {
                 return Ok((all, height));
             }
             let (item, its_height) = self.part(tokens)?;
@@ -125,7 +125,7 @@ impl<F: Fn(Global, &mut Tokens<'_>, u32) -> Result<(Stmt, u32), SyntaxError>> St
         requires { NestsStmt self.now.room (F.pre self.now.stmt) (F.post self.now.stmt) }
         ensures { Reads (spec.ended (spec.stmt self.now.room) self.now.room Stmt.Break tokens.old) result tokens.new }
     {
-        tokens.expect(Mark::Punct(Punct::Semicolon))?;
+        tokens.expect(Terminal::Punct(Punct::Semicolon))?;
         let height = self.node(1)?;
         Ok((Stmt::Break, height))
     }
@@ -135,7 +135,7 @@ impl<F: Fn(Global, &mut Tokens<'_>, u32) -> Result<(Stmt, u32), SyntaxError>> St
         requires { NestsStmt self.now.room (F.pre self.now.stmt) (F.post self.now.stmt) }
         ensures { Reads (spec.ended (spec.stmt self.now.room) self.now.room Stmt.Continue tokens.old) result tokens.new }
     {
-        tokens.expect(Mark::Punct(Punct::Semicolon))?;
+        tokens.expect(Terminal::Punct(Punct::Semicolon))?;
         let height = self.node(1)?;
         Ok((Stmt::Continue, height))
     }
@@ -145,8 +145,8 @@ impl<F: Fn(Global, &mut Tokens<'_>, u32) -> Result<(Stmt, u32), SyntaxError>> St
         requires { NestsStmt self.now.room (F.pre self.now.stmt) (F.post self.now.stmt) }
         ensures { Reads (spec.returned (spec.stmt self.now.room) self.now.room tokens.old) result tokens.new }
     {
-        let (value, height) = self.maybe(tokens, Mark::Punct(Punct::Semicolon))?;
-        tokens.expect(Mark::Punct(Punct::Semicolon))?;
+        let (value, height) = self.maybe(tokens, Terminal::Punct(Punct::Semicolon))?;
+        tokens.expect(Terminal::Punct(Punct::Semicolon))?;
         let height = self.node(height)?;
         Ok((Stmt::Return(value), height))
     }
@@ -158,7 +158,7 @@ impl<F: Fn(Global, &mut Tokens<'_>, u32) -> Result<(Stmt, u32), SyntaxError>> St
     {
         let (condition, first) = self.condition(tokens)?;
         let (body, second) = self.inner(tokens)?;
-        if !tokens.eat(Mark::Keyword(Keyword::Else)) {
+        if !tokens.eat(Terminal::Keyword(Keyword::Else)) {
             let height = self.node(first.max(second))?;
             return Ok((Stmt::If(condition, body, None), height));
         }
@@ -184,9 +184,9 @@ impl<F: Fn(Global, &mut Tokens<'_>, u32) -> Result<(Stmt, u32), SyntaxError>> St
         ensures { Reads (spec.do_loop (spec.stmt self.now.room) self.now.room tokens.old) result tokens.new }
     {
         let (body, first) = self.inner(tokens)?;
-        tokens.expect(Mark::Keyword(Keyword::While))?;
+        tokens.expect(Terminal::Keyword(Keyword::While))?;
         let (condition, second) = self.condition(tokens)?;
-        tokens.expect(Mark::Punct(Punct::Semicolon))?;
+        tokens.expect(Terminal::Punct(Punct::Semicolon))?;
         let height = self.node(first.max(second))?;
         Ok((Stmt::DoWhile(body, condition), height))
     }
@@ -196,12 +196,12 @@ impl<F: Fn(Global, &mut Tokens<'_>, u32) -> Result<(Stmt, u32), SyntaxError>> St
         requires { NestsStmt self.now.room (F.pre self.now.stmt) (F.post self.now.stmt) }
         ensures { Reads (spec.for_loop (spec.stmt self.now.room) self.now.room tokens.old) result tokens.new }
     {
-        tokens.expect(Mark::Punct(Punct::OpenParen))?;
+        tokens.expect(Terminal::Punct(Punct::OpenParen))?;
         let (start, first) = for_start(self.alloc, tokens, self.room)?;
-        let (condition, second) = self.maybe(tokens, Mark::Punct(Punct::Semicolon))?;
-        tokens.expect(Mark::Punct(Punct::Semicolon))?;
-        let (step, third) = self.maybe(tokens, Mark::Punct(Punct::CloseParen))?;
-        tokens.expect(Mark::Punct(Punct::CloseParen))?;
+        let (condition, second) = self.maybe(tokens, Terminal::Punct(Punct::Semicolon))?;
+        tokens.expect(Terminal::Punct(Punct::Semicolon))?;
+        let (step, third) = self.maybe(tokens, Terminal::Punct(Punct::CloseParen))?;
+        tokens.expect(Terminal::Punct(Punct::CloseParen))?;
         let (body, fourth) = self.part(tokens)?;
         let height = self.node(first.max(second).max(third.max(fourth)))?;
         let body = Boxed::new(self.alloc, body)?;
@@ -214,7 +214,7 @@ impl<F: Fn(Global, &mut Tokens<'_>, u32) -> Result<(Stmt, u32), SyntaxError>> St
         ensures { Reads (spec.plain (spec.stmt self.now.room) self.now.room tokens.old) result tokens.new }
     {
         let (x, height) = self.inside(tokens)?;
-        tokens.expect(Mark::Punct(Punct::Semicolon))?;
+        tokens.expect(Terminal::Punct(Punct::Semicolon))?;
         let height = self.node(height)?;
         Ok((Stmt::Expr(x), height))
     }
@@ -289,6 +289,6 @@ pub fn body(
     requires { room < 256 }
     ensures { Reads (files.body room tokens.old) result tokens.new }
 {
-    tokens.expect(Mark::Punct(Punct::OpenBrace))?;
+    tokens.expect(Terminal::Punct(Punct::OpenBrace))?;
     Statements { alloc, room, stmt }.block(tokens)
 }

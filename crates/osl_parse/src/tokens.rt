@@ -3,20 +3,20 @@
 
 ghost use Rattle.std.specs.Prelude.{◌≡◌, ◌&&◌, length, drop};
 ghost use Rattle.osl_tree.specs.Lexemes as lexical;
-ghost use Rattle.osl_tree.specs.Marks as marks;
+ghost use Rattle.osl_tree.specs.Terminals as terminals;
 ghost use Rattle.osl_tree.specs.Parser as spec;
 ghost use Rattle.osl_tree.specs.Reading as reading;
 ghost use Rattle.osl_tree.specs.StatementReading as statements;
 ghost use Rattle.osl_parse.specs.Reads.{Reads, is_end};
-ghost use Rattle.osl_parse.specs.Within.{LieWithin};
+ghost use Rattle.osl_tree.specs.Sources.{LieWithin};
 
 use crate::error::SyntaxError;
 use crate::escape::unescaped;
 use osl_tree::expr::{AssignOp, BaseType, BinaryOp, Expr, PrefixOp, Suffix};
-use osl_tree::mark::{Keyword, Mark};
 use osl_tree::stmt::{Start, TypeName};
+use osl_tree::terminal::{Keyword, Terminal};
 use osl_tree::token::{Punct, Token, TokenKind};
-use osl_tree::tree::ShaderKind;
+use osl_value::ShaderKind;
 use sqlite_items::Items;
 use std::alloc::Global;
 use std::marker::Model;
@@ -35,7 +35,7 @@ impl<'a> Model for Tokens<'a> {
     ghost Value = { List Lexeme };
 
     ghost use Rattle.osl_tree.specs.Lexemes.{lexemes};
-    ghost use Rattle.osl_parse.specs.Within.{LieWithin};
+    ghost use Rattle.osl_tree.specs.Sources.{LieWithin};
 
     ghost view = { λ t. lexemes t.source.now t.rest.now };
 
@@ -96,9 +96,9 @@ impl<'a> Tokens<'a> {
         self.skip();
     }
 
-    /// The mark or the reserved word that comes next.
-    fn mark(&self) -> Option<Mark>
-        ensures { result ≡ spec.of_mark Some (spec.first self.now) }
+    /// The terminal that comes next.
+    fn terminal(&self) -> Option<Terminal>
+        ensures { result ≡ spec.of_terminal Some (spec.first self.now) }
     {
         let [token, ..] = self.rest else {
             return None;
@@ -107,10 +107,10 @@ impl<'a> Tokens<'a> {
             TokenKind::Word => match Keyword::of(
                 &self.source[token.start as usize..token.end as usize],
             ) {
-                Some(word) => Some(Mark::Keyword(word)),
+                Some(word) => Some(Terminal::Keyword(word)),
                 None => None,
             },
-            TokenKind::Punct(mark) => Some(Mark::Punct(mark)),
+            TokenKind::Punct(mark) => Some(Terminal::Punct(mark)),
             _ => None,
         }
     }
@@ -130,34 +130,34 @@ impl<'a> Tokens<'a> {
         }
     }
 
-    /// Whether this mark comes next.
+    /// Whether this terminal comes next.
     #[tactic(auto, unfolding(osl_tree::specs::Parser::sees))]
-    pub fn sees(&self, mark: Mark) -> bool
-        ensures { result ≡ spec.sees mark self.now }
+    pub fn sees(&self, terminal: Terminal) -> bool
+        ensures { result ≡ spec.sees terminal self.now }
     {
-        match self.mark() {
-            Some(found) => found.is(mark),
+        match self.terminal() {
+            Some(found) => found.is(terminal),
             None => false,
         }
     }
 
-    /// Takes this mark, if it comes next.
-    pub fn eat(&mut self, mark: Mark) -> bool
-        ensures { spec.eat mark self.old ≡ Some (result, self.new) }
+    /// Takes this terminal, if it comes next.
+    pub fn eat(&mut self, terminal: Terminal) -> bool
+        ensures { spec.eat terminal self.old ≡ Some (result, self.new) }
     {
-        let sees = self.sees(mark);
+        let sees = self.sees(terminal);
         if sees {
             self.skip();
         }
         sees
     }
 
-    /// Takes this mark, which must come next.
+    /// Takes this terminal, which must come next.
     #[tactic(auto, unfolding(osl_tree::specs::Parser::expect))]
-    pub fn expect(&mut self, mark: Mark) -> Result<(), SyntaxError>
-        ensures { Reads (spec.expect mark self.old) result self.new }
+    pub fn expect(&mut self, terminal: Terminal) -> Result<(), SyntaxError>
+        ensures { Reads (spec.expect terminal self.old) result self.new }
     {
-        if !self.sees(mark) {
+        if !self.sees(terminal) {
             return Err(SyntaxError::NoTree);
         }
         self.skip();
@@ -225,7 +225,7 @@ impl<'a> Tokens<'a> {
     pub fn operator(&mut self, least: u8) -> Option<BinaryOp>
         ensures { spec.take_as (reading.operator least) self.old ≡ Some (result, self.new) }
     {
-        let op = self.mark()?.operator(least)?;
+        let op = self.terminal()?.operator(least)?;
         self.skip();
         Some(op)
     }
@@ -234,16 +234,16 @@ impl<'a> Tokens<'a> {
     pub fn storing(&mut self, level: u8) -> Option<AssignOp>
         ensures { spec.take_as (reading.storing level) self.old ≡ Some (result, self.new) }
     {
-        let op = self.mark()?.storing(level)?;
+        let op = self.terminal()?.storing(level)?;
         self.skip();
         Some(op)
     }
 
     /// Takes an operator that stands before its operand.
     pub fn prefix(&mut self) -> Option<PrefixOp>
-        ensures { spec.take_as marks.prefix_of self.old ≡ Some (result, self.new) }
+        ensures { spec.take_as terminals.prefix_of self.old ≡ Some (result, self.new) }
     {
-        let op = self.mark()?.prefix()?;
+        let op = self.terminal()?.prefix()?;
         self.skip();
         Some(op)
     }
@@ -252,25 +252,25 @@ impl<'a> Tokens<'a> {
     pub fn suffix(&mut self) -> Option<Suffix>
         ensures { spec.take_as reading.suffix_of self.old ≡ Some (result, self.new) }
     {
-        let suffix = self.mark()?.suffix()?;
+        let suffix = self.terminal()?.suffix()?;
         self.skip();
         Some(suffix)
     }
 
-    /// Takes the mark that a statement begins with.
+    /// Takes the terminal that a statement begins with.
     pub fn start(&mut self) -> Option<Start>
         ensures { spec.take_as statements.start_of self.old ≡ Some (result, self.new) }
     {
-        let start = self.mark()?.start()?;
+        let start = self.terminal()?.start()?;
         self.skip();
         Some(start)
     }
 
     /// Takes the kind of a shader.
     pub fn kind(&mut self) -> Option<ShaderKind>
-        ensures { spec.take_as marks.kind_of self.old ≡ Some (result, self.new) }
+        ensures { spec.take_as terminals.kind_of self.old ≡ Some (result, self.new) }
     {
-        let kind = self.mark()?.kind()?;
+        let kind = self.terminal()?.kind()?;
         self.skip();
         Some(kind)
     }
@@ -287,21 +287,21 @@ impl<'a> Tokens<'a> {
 
     /// The type that the next word names by itself.
     fn base_word(&self) -> Option<BaseType>
-        ensures { result ≡ spec.of_mark marks.base_of (spec.first self.now) }
+        ensures { result ≡ spec.of_terminal terminals.base_of (spec.first self.now) }
     {
-        self.mark()?.base()
+        self.terminal()?.base()
     }
 
     /// Whether `closure color` comes next.
     fn sees_closure(&self) -> bool
-        ensures { result ≡ (spec.sees (Mark.Keyword Keyword.Closure) self.now && spec.sees (Mark.Keyword Keyword.Color) (spec.rest self.now)) }
+        ensures { result ≡ (spec.sees (Terminal.Keyword Keyword.Closure) self.now && spec.sees (Terminal.Keyword Keyword.Color) (spec.rest self.now)) }
     {
-        if !self.sees(Mark::Keyword(Keyword::Closure)) {
+        if !self.sees(Terminal::Keyword(Keyword::Closure)) {
             return false;
         }
         let mut ahead = self.ahead();
         ahead.skip();
-        ahead.sees(Mark::Keyword(Keyword::Color))
+        ahead.sees(Terminal::Keyword(Keyword::Color))
     }
 
     /// Takes a type that reserved words name; the number is how many they are.
@@ -326,11 +326,11 @@ impl<'a> Tokens<'a> {
         ensures { spec.take_cast self.old ≡ Some (result, self.new) }
     {
         let mut ahead = self.ahead();
-        if !ahead.eat(Mark::Punct(Punct::OpenParen)) {
+        if !ahead.eat(Terminal::Punct(Punct::OpenParen)) {
             return None;
         }
         let to = ahead.base()?;
-        if !ahead.eat(Mark::Punct(Punct::CloseParen)) {
+        if !ahead.eat(Terminal::Punct(Punct::CloseParen)) {
             return None;
         }
         *self = ahead;

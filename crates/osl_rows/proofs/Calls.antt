@@ -7,7 +7,7 @@ use Rattle.osl_value.specs.Apply.{apply}
 use Rattle.osl_value.specs.Numbers.{root_by, root_of}
 use Rattle.osl_layer.specs.declared.global.GlobalName.TheVariants as globals
 use Rattle.osl_overload.specs.declared.signature.Kind.TheVariants.{Value, Void, Structure}
-use Rattle.osl_tree.specs.declared.tree.ShaderKind.TheVariants as kinds
+use Rattle.osl_value.specs.declared.shader_kind.ShaderKind.TheVariants as kinds
 use Rattle.osl_typed.specs.declared.expr.Part.{Part}
 use Rattle.osl_typed.specs.declared.expr.Root.TheVariants.{Global}
 use Rattle.osl_typed.specs.Ends.{in_turn, loop}

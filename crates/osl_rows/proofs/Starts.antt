@@ -11,7 +11,7 @@ use Rattle.osl_value.specs.Numbers.{root_by, root_of}
 use Rattle.osl_layer.specs.Layer.{From, Fixed, Default, Inputs, LayerEnd}
 use Rattle.osl_layer.specs.declared.global.GlobalName.TheVariants as globals
 use Rattle.osl_overload.specs.declared.signature.Kind.TheVariants.{Value, Structure}
-use Rattle.osl_tree.specs.declared.tree.ShaderKind.TheVariants as kinds
+use Rattle.osl_value.specs.declared.shader_kind.ShaderKind.TheVariants as kinds
 use Rattle.osl_typed.specs.declared.expr.Part.{Part}
 use Rattle.osl_typed.specs.declared.expr.Root.TheVariants.{Global}
 use Rattle.osl_typed.specs.declared.expr.Step.TheVariants.{DecrementFirst, DecrementAfter}
@@ -31,7 +31,7 @@ use Rattle.osl_rows.proofs.Words.{int, float, color, point, vector, normal, matr
 -- a closure of emission alone, with weight 1
 abbrev glowing : LayerEnd
 glowing = record {
-  given = Some (record {
+  results = Some (record {
     outputs = None ∷ [];
     closure = record { weight = units 1 ∷ units 1 ∷ units 1 ∷ []; prim = Emission; normal = pos 0 ∷ pos 0 ∷ pos 0 ∷ []; number = pos 0; text = [] } ∷ [];
   });
@@ -196,7 +196,7 @@ connected = shader []
 abbrev from_five : Inputs
 from_five = λ k. if k == 1 then From (Some (an_int (pos 5))) else Default
 
-from_a_source : source_run (w.shader connected) from_five here 0 ≡ record { given = Some (record { outputs = Some (an_int (pos 0)) ∷ None ∷ Some (an_int (pos 5)) ∷ []; closure = [] }); reads = λ k. if k == 1 then true else false }
+from_a_source : source_run (w.shader connected) from_five here 0 ≡ record { results = Some (record { outputs = Some (an_int (pos 0)) ∷ None ∷ Some (an_int (pos 5)) ∷ []; closure = [] }); reads = λ k. if k == 1 then true else false }
 unfolding leaves_below leaves_before leaves_at with_leaves in_order in_turn loop types_on_the_way selected with_selected finals_from with_elements outputs_from w.routines_below w.defaults_written w.run_of apply root_by root_of int_wrap
 from_a_source = w.runs connected from_five here 0 ∙ refl
 
@@ -216,7 +216,7 @@ abbrev from_a_color : Inputs
 from_a_color = λ k. if k == 0 then From (Some (floats color (units 1 ∷ units 2 ∷ units 3 ∷ []))) else Default
 
 green_of_a_source : source_run (w.shader green) from_a_color here 0
-    ≡ record { given = Some (record { outputs = None ∷ Some (floats float (units 2 ∷ [])) ∷ []; closure = [] }); reads = λ k. if k == 0 then true else false }
+    ≡ record { results = Some (record { outputs = None ∷ Some (floats float (units 2 ∷ [])) ∷ []; closure = [] }); reads = λ k. if k == 0 then true else false }
 unfolding leaves_below leaves_before leaves_at with_leaves in_order in_turn loop types_on_the_way selected with_selected finals_from with_elements outputs_from w.routines_below w.defaults_written w.run_of apply root_by root_of int_wrap
 green_of_a_source = w.runs green from_a_color here 0 ∙ refl
 

@@ -13,7 +13,7 @@ use Rattle.osl_layer.specs.Layer.{Default, Inputs, LayerEnd}
 use Rattle.osl_overload.specs.declared.signature.Formal.{Formal}
 use Rattle.osl_overload.specs.declared.signature.Kind.{Kind}
 use Rattle.osl_overload.specs.declared.signature.Kind.TheVariants.{Value, Void}
-use Rattle.osl_tree.specs.declared.tree.ShaderKind.TheVariants as kinds
+use Rattle.osl_value.specs.declared.shader_kind.ShaderKind.TheVariants as kinds
 use Rattle.osl_typed.specs.declared.expr.Argument.TheOpen as node
 use Rattle.osl_typed.specs.declared.expr.Part.{Part}
 use Rattle.osl_typed.specs.declared.expr.Root.{Root}
@@ -93,14 +93,14 @@ abbrev pub defaults : Inputs
 defaults = λ k. Default
 
 abbrev pub gives : List (Option AnyValue) → LayerEnd
-gives outputs = record { given = Some (record { outputs = outputs; closure = [] }); reads = λ k. false }
+gives outputs = record { results = Some (record { outputs = outputs; closure = [] }); reads = λ k. false }
 
 -- of a layer all of whose parameters are outputs of the type int
 abbrev pub gives_ints : List ℤ → LayerEnd
 gives_ints ns = gives (map (λ n. Some (an_int n)) ns)
 
 abbrev pub spent : LayerEnd
-spent = record { given = None; reads = λ k. false }
+spent = record { results = None; reads = λ k. false }
 
 -- ---- expressions
 
@@ -271,7 +271,7 @@ int_outputs ns = map (λ n. output int (literal n)) ns
 -- a shader of the kind `shader`, by the functions before it, its parameters, the kinds of its other variables, and its body
 abbrev pub shader : List w.Routine → List w.Given → List Kind → List w.Does → w.Whole
 shader functions params others body =
-    record { structures = []; functions = functions; kind = kinds.Generic; params = params; kinds = map (λ param. Value param.ty) params ++ others; body = body }
+    record { structures = []; functions = functions; kind = kinds.Shader; params = params; kinds = map (λ param. Value param.ty) params ++ others; body = body }
 
 -- void more(output int a, int n) { a += n; }
 abbrev pub more : w.Routine

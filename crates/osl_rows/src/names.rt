@@ -2,9 +2,8 @@
 
 use osl_names::{Fields, Scope, Structures};
 use osl_overload::Kind;
-use osl_tree::tree::ShaderKind;
 use osl_typed::Root;
-use osl_value::{Base, Ty};
+use osl_value::{Base, ShaderKind, Ty};
 use std::alloc::{AllocError, Global};
 use std::test::Fail;
 
@@ -107,8 +106,8 @@ static GLOBALS: [(ShaderKind, &str, bool); 10] = [
     (ShaderKind::Displacement, "N", true),
     (ShaderKind::Displacement, "Ng", false),
     (ShaderKind::Displacement, "Ci", false),
-    (ShaderKind::Generic, "Ci", false),
-    (ShaderKind::Generic, "u", false),
+    (ShaderKind::Shader, "Ci", false),
+    (ShaderKind::Shader, "u", false),
 ];
 
 /// Whether a name is known, and may be assigned.

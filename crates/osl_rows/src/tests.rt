@@ -182,15 +182,15 @@ static SOURCES: [(&str, &str); 19] = [
     ),
     (
         "struct t { float a, b[3]; color c; }; struct u {}; shader s(t x = a) {}",
-        "(Structure t (Fields Float a b[3]) (Fields Color c)) (Structure u) (Generic s (Input t x a) (Block))",
+        "(Structure t (Fields Float a b[3]) (Fields Color c)) (Structure u) (Shader s (Input t x a) (Block))",
     ),
     (
         "void f() {} t g(int i, output color c[2]) { return i; } shader s() {}",
-        "(Function Void f (Block)) (Function t g (Input Int i) (Output Color c[2]) (Block (Return i))) (Generic s (Block))",
+        "(Function Void f (Block)) (Function t g (Input Int i) (Output Color c[2]) (Block (Return i))) (Shader s (Block))",
     ),
     (
         "shader checker(float scale = 4, color c1 = 1, color c2 = 0,\n               output color Cout = 0)\n{\n    int a = (int) floor(u * scale);\n    int b = (int) floor(v * scale);\n    Cout = (a + b) % 2 ? c2 : c1;\n}\n",
-        "(Generic checker (Input Float scale 4) (Input Color c1 1) (Input Color c2 0) (Output Color Cout 0) (Block (Declare Int (Set a (Cast Int (Call floor (Multiply u scale))))) (Declare Int (Set b (Cast Int (Call floor (Multiply v scale))))) (AssignSet Cout (Choice (Remainder (Paren (Add a b)) 2) c2 c1))))",
+        "(Shader checker (Input Float scale 4) (Input Color c1 1) (Input Color c2 0) (Output Color Cout 0) (Block (Declare Int (Set a (Cast Int (Call floor (Multiply u scale))))) (Declare Int (Set b (Cast Int (Call floor (Multiply v scale))))) (AssignSet Cout (Choice (Remainder (Paren (Add a b)) 2) c2 c1))))",
     ),
     (
         "surface gloss(color Cs = 0.8,\n              float Ks = 0.1 [[int lockgeom = 0, float min = 0]])\n{\n    normal Nf = normalize(N);\n    Ci = (1 - Ks) * Cs * diffuse(Nf) + Ks * reflection(Nf, 1.5);\n}\n",
@@ -264,7 +264,7 @@ fn statements_have_their_shapes(rt: HostRuntime) -> Result<(), Fail> {
         let source = format!(in alloc; "shader s() {{ {text} }}")?;
         assert!(rt; source.len() <= LIMIT);
         let found = shape_of(alloc, source.as_str())?;
-        let wanted = format!(in alloc; "(Generic s (Block {shape}))")?;
+        let wanted = format!(in alloc; "(Shader s (Block {shape}))")?;
         assert_eq!(rt; found.as_str(), wanted.as_str(), "{text}");
     }
     for text in &NO_STATEMENTS {

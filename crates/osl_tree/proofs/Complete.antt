@@ -3,9 +3,9 @@ use Rattle.std.proofs.Common.{◌≡◌, ℕ, zero, suc, ◌+◌, ◌-◌, ◌�
 use Rattle.std.proofs.lemmas.Bool.Decides.{nat_tests}
 use Rattle.std.proofs.lemmas.Option.{none-some}
 use Rattle.osl_tree.specs.declared.token.Punct.TheVariants as p
-use Rattle.osl_tree.specs.declared.mark.Keyword.TheVariants as w
-use Rattle.osl_tree.specs.declared.mark.Mark.{Mark}
-use Rattle.osl_tree.specs.declared.mark.Mark.TheVariants as m
+use Rattle.osl_tree.specs.declared.terminal.Keyword.TheVariants as w
+use Rattle.osl_tree.specs.declared.terminal.Terminal.{Terminal}
+use Rattle.osl_tree.specs.declared.terminal.Terminal.TheVariants as m
 use Rattle.osl_tree.specs.Lexeme.{Lexeme}
 use Rattle.osl_tree.specs.Lexeme as l
 use Rattle.osl_tree.specs.declared.expr.PostfixOp.{PostfixOp}
@@ -17,20 +17,20 @@ use Rattle.osl_tree.specs.declared.expr.BinaryOp.TheVariants as binaries
 use Rattle.osl_tree.specs.declared.expr.AssignOp.{AssignOp}
 use Rattle.osl_tree.specs.declared.expr.Expr.{Expr}
 use Rattle.osl_tree.specs.declared.expr.Expr.TheVariants as e
-use Rattle.osl_tree.specs.Marks.{sign, prefix_of, postfix_of, binary_of, level, assign_of}
+use Rattle.osl_tree.specs.Terminals.{sign, prefix_of, postfix_of, binary_of, level, assign_of}
 use Rattle.osl_tree.specs.Grammar as g
 use Rattle.osl_tree.specs.Grammar.{IsBase, IsExpr, IsUnary, IsPostfix, IsPrimary, AreArguments, AreExprs}
 use Rattle.osl_tree.specs.Statements as s
 use Rattle.osl_tree.specs.Statements.{AreListed}
-use Rattle.osl_tree.specs.Parser.{same_mark, Parser, first, of_mark, sees, base_at, listed, name, expect}
+use Rattle.osl_tree.specs.Parser.{same_terminal, Parser, first, of_terminal, sees, base_at, listed, name, expect}
 use Rattle.osl_tree.specs.Reading.{at_least, operator, storing, is_asking, Found, suffix_of, arguments, word, parenthesised, constructed, primary, index, field, stepped, suffixed, continued, postfix_from, postfix, cast, prefixed, unary, joined, climb, chosen, binary, stored, whole, expr, name_or_paren}
-use Rattle.osl_tree.proofs.Steps.{sees_mark, expect_mark, node_in, name_is, bound, eats, skips, takes, leaves}
-use Rattle.osl_tree.proofs.Begins.{and_more, begins_expr, begins_postfix, some_token, high_primary, high_unary, high_expr, other_mark, unlike, no_prefix, no_cast, takes_base, uncast_goes, cast_goes}
+use Rattle.osl_tree.proofs.Steps.{sees_terminal, expect_terminal, node_in, name_is, bound, eats, skips, takes, leaves}
+use Rattle.osl_tree.proofs.Begins.{and_more, begins_expr, begins_postfix, some_token, high_primary, high_unary, high_expr, other_terminal, unlike, no_prefix, no_cast, takes_base, uncast_goes, cast_goes}
 use Rattle.osl_tree.proofs.Lists.{CompleteFor, listed_complete}
 use Rattle.osl_tree.proofs.Sound.{loose}
 
--- Behind a part at a lower level than this, such a mark would go on with it.
-abbrev pub binds : Mark → ℕ
+-- Behind a part at a lower level than this, such a terminal would go on with it.
+abbrev pub binds : Terminal → ℕ
 binds (m.Punct p.Assign) = 1
 binds (m.Punct p.PlusAssign) = 1
 binds (m.Punct p.MinusAssign) = 1
@@ -76,7 +76,7 @@ follows (l.name bytes ∷ ts) = 0
 follows (l.int n ∷ ts) = 0
 follows (l.float units ∷ ts) = 0
 follows (l.text bytes ∷ ts) = 0
-follows (l.mark k ∷ ts) = binds k
+follows (l.terminal k ∷ ts) = binds k
 
 too_loose : (k : ℕ) (op : BinaryOp) → level op < k → at_least k (Some op) ≡ None
 too_loose k op less = let e : nat_le k (level op) ≡ false = grind (arith, nat_tests) in rw e refl
@@ -84,7 +84,7 @@ too_loose k op less = let e : nat_le k (level op) ≡ false = grind (arith, nat_
 tight : (k : ℕ) (op : BinaryOp) → k ≤ level op → at_least k (Some op) ≡ Some op
 tight k op le = let e : nat_le k (level op) ≡ true = grind (arith, nat_tests) in rw e refl
 
-binds_op : (j : Mark) (op : BinaryOp) → binary_of j ≡ Some op → binds j ≡ level op + 1
+binds_op : (j : Terminal) (op : BinaryOp) → binary_of j ≡ Some op → binds j ≡ level op + 1
 binds_op (m.Punct p.OrOr) op s = let q : binaries.Or ≡ op = grind arith in ap (λ o. level o + 1) q
 binds_op (m.Keyword w.Or) op s = let q : binaries.Or ≡ op = grind arith in ap (λ o. level o + 1) q
 binds_op (m.Punct p.AndAnd) op s = let q : binaries.And ≡ op = grind arith in ap (λ o. level o + 1) q
@@ -108,22 +108,22 @@ binds_op (m.Punct p.Percent) op s = let q : binaries.Remainder ≡ op = grind ar
 binds_op (m.Punct _) op s = cc
 binds_op (m.Keyword _) op s = cc
 
-quiet_mark : (k : ℕ) (j : Mark) → binds j ≤ k → operator k j ≡ None
-quiet_mark k j le = by (binary_of j) refl
+quiet_terminal : (k : ℕ) (j : Terminal) → binds j ≤ k → operator k j ≡ None
+quiet_terminal k j le = by (binary_of j) refl
   where
     by : (o : Option BinaryOp) → binary_of j ≡ o → at_least k o ≡ None
     by None s = refl
     by (Some op) s = too_loose k op (let b = binds_op j op s in omega arith)
 
-quiet_operator : (k : ℕ) (ts : List Lexeme) → follows ts ≤ k → of_mark (operator k) (first ts) ≡ None
+quiet_operator : (k : ℕ) (ts : List Lexeme) → follows ts ≤ k → of_terminal (operator k) (first ts) ≡ None
 quiet_operator k [] le = refl
 quiet_operator k (l.name bytes ∷ ts) le = refl
 quiet_operator k (l.int n ∷ ts) le = refl
 quiet_operator k (l.float units ∷ ts) le = refl
 quiet_operator k (l.text bytes ∷ ts) le = refl
-quiet_operator k (l.mark j ∷ ts) le = quiet_mark k j le
+quiet_operator k (l.terminal j ∷ ts) le = quiet_terminal k j le
 
-binds_store : (j : Mark) (op : AssignOp) → assign_of j ≡ Some op → binds j ≡ 1
+binds_store : (j : Terminal) (op : AssignOp) → assign_of j ≡ Some op → binds j ≡ 1
 binds_store (m.Punct p.Assign) op s = refl
 binds_store (m.Punct p.PlusAssign) op s = refl
 binds_store (m.Punct p.MinusAssign) op s = refl
@@ -137,26 +137,26 @@ binds_store (m.Punct p.XorAssign) op s = refl
 binds_store (m.Punct _) op s = cc
 binds_store (m.Keyword k) op s = cc
 
-quiet_assign : (j : Mark) → binds j ≤ 0 → assign_of j ≡ None
+quiet_assign : (j : Terminal) → binds j ≤ 0 → assign_of j ≡ None
 quiet_assign j le = by (assign_of j) refl
   where
     by : (o : Option AssignOp) → assign_of j ≡ o → o ≡ None
     by None s = refl
     by (Some op) s = absurd (let b = binds_store j op s in omega arith)
 
-quiet_storing : (k : ℕ) (j : Mark) → binds j ≤ k → storing k j ≡ None
+quiet_storing : (k : ℕ) (j : Terminal) → binds j ≤ k → storing k j ≡ None
 quiet_storing (suc k) j le = refl
 quiet_storing zero j le = quiet_assign j le
 
-quiet_store : (k : ℕ) (ts : List Lexeme) → follows ts ≤ k → of_mark (storing k) (first ts) ≡ None
+quiet_store : (k : ℕ) (ts : List Lexeme) → follows ts ≤ k → of_terminal (storing k) (first ts) ≡ None
 quiet_store k [] le = refl
 quiet_store k (l.name bytes ∷ ts) le = refl
 quiet_store k (l.int n ∷ ts) le = refl
 quiet_store k (l.float units ∷ ts) le = refl
 quiet_store k (l.text bytes ∷ ts) le = refl
-quiet_store k (l.mark j ∷ ts) le = quiet_storing k j le
+quiet_store k (l.terminal j ∷ ts) le = quiet_storing k j le
 
-binds_suffix : (j : Mark) (o : Suffix) → suffix_of j ≡ Some o → binds j ≡ 13
+binds_suffix : (j : Terminal) (o : Suffix) → suffix_of j ≡ Some o → binds j ≡ 13
 binds_suffix (m.Punct p.OpenBracket) o s = refl
 binds_suffix (m.Punct p.Dot) o s = refl
 binds_suffix (m.Punct p.Increment) o s = refl
@@ -164,31 +164,31 @@ binds_suffix (m.Punct p.Decrement) o s = refl
 binds_suffix (m.Punct _) o s = cc
 binds_suffix (m.Keyword k) o s = cc
 
-quiet_suffix_mark : (j : Mark) → binds j ≤ 12 → suffix_of j ≡ None
-quiet_suffix_mark j le = by (suffix_of j) refl
+quiet_suffix_terminal : (j : Terminal) → binds j ≤ 12 → suffix_of j ≡ None
+quiet_suffix_terminal j le = by (suffix_of j) refl
   where
     by : (o : Option Suffix) → suffix_of j ≡ o → o ≡ None
     by None s = refl
     by (Some op) s = absurd (let b = binds_suffix j op s in omega arith)
 
-quiet_suffix : (ts : List Lexeme) → follows ts ≤ 12 → of_mark suffix_of (first ts) ≡ None
+quiet_suffix : (ts : List Lexeme) → follows ts ≤ 12 → of_terminal suffix_of (first ts) ≡ None
 quiet_suffix [] le = refl
 quiet_suffix (l.name bytes ∷ ts) le = refl
 quiet_suffix (l.int n ∷ ts) le = refl
 quiet_suffix (l.float units ∷ ts) le = refl
 quiet_suffix (l.text bytes ∷ ts) le = refl
-quiet_suffix (l.mark j ∷ ts) le = quiet_suffix_mark j le
+quiet_suffix (l.terminal j ∷ ts) le = quiet_suffix_terminal j le
 
-pub unseen : (k : Mark) (ts : List Lexeme) → follows ts < binds k → sees k ts ≡ false
+pub unseen : (k : Terminal) (ts : List Lexeme) → follows ts < binds k → sees k ts ≡ false
 unfolding sees
 unseen k [] less = refl
 unseen k (l.name bytes ∷ ts) less = refl
 unseen k (l.int n ∷ ts) less = refl
 unseen k (l.float units ∷ ts) less = refl
 unseen k (l.text bytes ∷ ts) less = refl
-unseen k (l.mark j ∷ ts) less = other_mark j k (λ s. absurd (omega (arith, ap binds s)))
+unseen k (l.terminal j ∷ ts) less = other_terminal j k (λ s. absurd (omega (arith, ap binds s)))
 
-op_no_store : (k : ℕ) (j : Mark) (op : BinaryOp) → binary_of j ≡ Some op → 2 ≤ level op → storing k j ≡ None
+op_no_store : (k : ℕ) (j : Terminal) (op : BinaryOp) → binary_of j ≡ Some op → 2 ≤ level op → storing k j ≡ None
 op_no_store (suc k) j op s two = refl
 op_no_store zero j op s two = by (assign_of j) refl
   where
@@ -232,39 +232,39 @@ abbrev pub Stops : List Lexeme → Type 0
 Stops ts = follows ts ≤ 0
 
 begins_items : {xs : List Expr} {a : List Lexeme} {h : ℕ} (after : List Lexeme) → AreExprs xs a h → sees (m.Punct p.CloseParen) (a ++ after) ≡ false
-unfolding same_mark
+unfolding same_terminal
 begins_items after (g.last d) = unlike (m.Punct p.CloseParen) (record { no_base = refl; no_prefix = refl; no_paren = refl; no_closure = refl }) (and_more after (begins_expr d))
 begins_items after (g.more d d') = unlike (m.Punct p.CloseParen) (record { no_base = refl; no_prefix = refl; no_paren = refl; no_closure = refl }) (and_more after (and_more _ (begins_expr d)))
 
 sees_arguments : {xs : List Expr} {a : List Lexeme} {h : ℕ} (after : List Lexeme) → AreArguments xs a h → sees (m.Punct p.OpenParen) (a ++ after) ≡ true
-sees_arguments after g.none = sees_mark (m.Punct p.OpenParen) _
-sees_arguments after (g.some d) = sees_mark (m.Punct p.OpenParen) _
+sees_arguments after g.none = sees_terminal (m.Punct p.OpenParen) _
+sees_arguments after (g.some d) = sees_terminal (m.Punct p.OpenParen) _
 
 exprs_high : {xs : List Expr} {a : List Lexeme} {h : ℕ} → AreExprs xs a h → 0 < h
 exprs_high (g.last d) = high_expr d
 exprs_high (g.more d d') = omega (arith, high_expr d)
 
 pub no_comma_at_paren : (us : List Lexeme) → sees (m.Punct p.Comma) (sign p.CloseParen ∷ us) ≡ false
-unfolding sees same_mark
+unfolding sees same_terminal
 no_comma_at_paren us = refl
 
 unopened_index : (us : List Lexeme) → sees (m.Punct p.OpenParen) (sign p.OpenBracket ∷ us) ≡ false
-unfolding sees same_mark
+unfolding sees same_terminal
 unopened_index us = refl
 
 unopened_field : (us : List Lexeme) → sees (m.Punct p.OpenParen) (sign p.Dot ∷ us) ≡ false
-unfolding sees same_mark
+unfolding sees same_terminal
 unopened_field us = refl
 
-unopened_step : (k : Mark) (op : PostfixOp) (us : List Lexeme) → postfix_of k ≡ Some op → sees (m.Punct p.OpenParen) (l.mark k ∷ us) ≡ false
+unopened_step : (k : Terminal) (op : PostfixOp) (us : List Lexeme) → postfix_of k ≡ Some op → sees (m.Punct p.OpenParen) (l.terminal k ∷ us) ≡ false
 unfolding sees
-unopened_step k op us e = other_mark k (m.Punct p.OpenParen) (λ s. none-some op (sym (ap postfix_of s) ∙ e))
+unopened_step k op us e = other_terminal k (m.Punct p.OpenParen) (λ s. none-some op (sym (ap postfix_of s) ∙ e))
 
 abbrev suffix_for : PostfixOp → Suffix
 suffix_for postfixes.Increment = suffixes.Increment
 suffix_for postfixes.Decrement = suffixes.Decrement
 
-step_suffix : (k : Mark) (op : PostfixOp) → postfix_of k ≡ Some op → suffix_of k ≡ Some (suffix_for op)
+step_suffix : (k : Terminal) (op : PostfixOp) → postfix_of k ≡ Some op → suffix_of k ≡ Some (suffix_for op)
 step_suffix (m.Punct p.Increment) op e = let q : postfixes.Increment ≡ op = grind arith in ap (λ o. Some (suffix_for o)) q
 step_suffix (m.Punct p.Decrement) op e = let q : postfixes.Decrement ≡ op = grind arith in ap (λ o. Some (suffix_for o)) q
 step_suffix (m.Punct _) op e = cc
@@ -280,23 +280,23 @@ module _ (inner : ℕ → Parser Found) (room : ℕ) (comp : Complete inner room
 
   arguments_complete : {xs : List Expr} {a : List Lexeme} {h : ℕ} (after : List Lexeme) → AreArguments xs a h → h ≤ room → arguments inner room (a ++ after) ≡ Some ((xs, h), after)
   unfolding arguments
-  arguments_complete after g.none low = bound _ (expect_mark (m.Punct p.OpenParen) (sign p.CloseParen ∷ after)) (eats (m.Punct p.CloseParen) after _ _ refl)
+  arguments_complete after g.none low = bound _ (expect_terminal (m.Punct p.OpenParen) (sign p.CloseParen ∷ after)) (eats (m.Punct p.CloseParen) after _ _ refl)
   arguments_complete after (g.some {h} {xs} {a} d) low =
       let ts = a ++ sign p.CloseParen ∷ after in
       ap (λ us. arguments inner room (sign p.OpenParen ∷ us)) (append_assoc a (sign p.CloseParen ∷ []) after)
-      ∙ bound _ (expect_mark (m.Punct p.OpenParen) ts) (skips (m.Punct p.CloseParen) ts _ _ (begins_items (sign p.CloseParen ∷ after) d)
-      (bound _ (exprs_complete h xs a (sign p.CloseParen ∷ after) d low (omega arith, no_comma_at_paren after)) (bound _ (expect_mark (m.Punct p.CloseParen) after) refl)))
+      ∙ bound _ (expect_terminal (m.Punct p.OpenParen) ts) (skips (m.Punct p.CloseParen) ts _ _ (begins_items (sign p.CloseParen ∷ after) d)
+      (bound _ (exprs_complete h xs a (sign p.CloseParen ∷ after) d low (omega arith, no_comma_at_paren after)) (bound _ (expect_terminal (m.Punct p.CloseParen) after) refl)))
 
   parenthesised_complete : {x : Expr} {a : List Lexeme} {h : ℕ} (after : List Lexeme) → IsExpr 0 x a h → h ≤ room
       → parenthesised inner room (a ++ sign p.CloseParen ∷ after) ≡ Some ((e.Paren x, h + 1), after)
   unfolding parenthesised
   parenthesised_complete {x} {a} {h} after d low =
       bound _ (comp 0 h x a (sign p.CloseParen ∷ after) (omega arith) d low (omega arith))
-      (bound _ (expect_mark (m.Punct p.CloseParen) after) (bound _ (node_in room h after low) refl))
+      (bound _ (expect_terminal (m.Punct p.CloseParen) after) (bound _ (node_in room h after low) refl))
 
   primary_complete : {x : Expr} {a : List Lexeme} {h : ℕ} (after : List Lexeme) → IsPrimary x a h → h ≤ room + 1 → sees (m.Punct p.OpenParen) after ≡ false
       → primary inner room (a ++ after) ≡ Some ((x, h), after)
-  unfolding primary name_or_paren word name expect base_at sees same_mark
+  unfolding primary name_or_paren word name expect base_at sees same_terminal
   primary_complete after (g.int n) low quiet = refl
   primary_complete after (g.float n) low quiet = refl
   primary_complete after (g.text bytes) low quiet = refl
@@ -316,7 +316,7 @@ module _ (inner : ℕ → Parser Found) (room : ℕ) (comp : Complete inner room
   unfolding index
   index_complete x h {y} {b} {i} after d low =
       bound _ (comp 0 i y b (sign p.CloseBracket ∷ after) (omega arith) d (omega arith) (omega arith))
-      (bound _ (expect_mark (m.Punct p.CloseBracket) after) (bound _ (node_in room (max h i) after low) refl))
+      (bound _ (expect_terminal (m.Punct p.CloseBracket) after) (bound _ (node_in room (max h i) after low) refl))
 
   field_complete : (x : Expr) (h : ℕ) (bytes : List ℕ) (after : List Lexeme) → h ≤ room → field inner room (x, h) (l.name bytes ∷ after) ≡ Some ((e.Field x bytes, h + 1), after)
   unfolding field
@@ -327,8 +327,8 @@ module _ (inner : ℕ → Parser Found) (room : ℕ) (comp : Complete inner room
   step_complete x h postfixes.Increment after low = bound _ (node_in room h after low) refl
   step_complete x h postfixes.Decrement after low = bound _ (node_in room h after low) refl
 
-  suffix_goes : (n : ℕ) (k : Mark) (o : Suffix) (x : Found) (y : Found) (us after : List Lexeme) → suffix_of k ≡ Some o → suffixed inner room x o us ≡ Some (y, after)
-      → postfix_from inner room (suc n) x (l.mark k ∷ us) ≡ postfix_from inner room n y after
+  suffix_goes : (n : ℕ) (k : Terminal) (o : Suffix) (x : Found) (y : Found) (us after : List Lexeme) → suffix_of k ≡ Some o → suffixed inner room x o us ≡ Some (y, after)
+      → postfix_from inner room (suc n) x (l.terminal k ∷ us) ≡ postfix_from inner room n y after
   unfolding postfix_from
   suffix_goes n k o x y us after s e = takes suffix_of k o us (continued inner room x (postfix_from inner room n)) s (bound (postfix_from inner room n) e refl)
 
@@ -336,12 +336,12 @@ module _ (inner : ℕ → Parser Found) (room : ℕ) (comp : Complete inner room
   abbrev Goes : Expr → ℕ → List Lexeme → List Lexeme → Type 0
   Goes x h ts after = (n : ℕ) × (room + 1 < n + h) × (postfix inner room ts ≡ postfix_from inner room n (x, h) after)
 
-  goes_on : (x y : Expr) (h i : ℕ) (ts all us after : List Lexeme) (k : Mark) (o : Suffix) → all ≡ ts → Goes x h ts (l.mark k ∷ us) → suffix_of k ≡ Some o
+  goes_on : (x y : Expr) (h i : ℕ) (ts all us after : List Lexeme) (k : Terminal) (o : Suffix) → all ≡ ts → Goes x h ts (l.terminal k ∷ us) → suffix_of k ≡ Some o
       → suffixed inner room (x, h) o us ≡ Some ((y, i), after) → h < i → i ≤ room + 1 → Goes y i all after
   goes_on x y h i ts all us after k o split r s e more low =
       let left = r.1 in
       let n : r.0 ≡ suc (r.0 - 1) = omega arith in
-      (r.0 - 1, omega arith, ap (postfix inner room) split ∙ r.2 ∙ ap (λ j. postfix_from inner room j (x, h) (l.mark k ∷ us)) n ∙ suffix_goes (r.0 - 1) k o (x, h) (y, i) us after s e)
+      (r.0 - 1, omega arith, ap (postfix inner room) split ∙ r.2 ∙ ap (λ j. postfix_from inner room j (x, h) (l.terminal k ∷ us)) n ∙ suffix_goes (r.0 - 1) k o (x, h) (y, i) us after s e)
 
   postfix_goes : {x : Expr} {a : List Lexeme} {h : ℕ} (after : List Lexeme) → IsPostfix x a h → h ≤ room + 1 → sees (m.Punct p.OpenParen) after ≡ false → Goes x h (a ++ after) after
   unfolding postfix
@@ -356,7 +356,7 @@ module _ (inner : ℕ → Parser Found) (room : ℕ) (comp : Complete inner room
       goes_on x (e.Field x bytes) h (h + 1) (a ++ sign p.Dot ∷ us) _ us after (m.Punct p.Dot) suffixes.Field (append_assoc a (sign p.Dot ∷ l.name bytes ∷ []) after) (postfix_goes (sign p.Dot ∷ us) d (omega arith) (unopened_field us)) refl
       (field_complete x h bytes after (omega arith)) (omega arith) low
   postfix_goes after (g.step {h} {x} {a} k op s d) low quiet =
-      goes_on x (e.Postfix op x) h (h + 1) (a ++ l.mark k ∷ after) _ after after k (suffix_for op) (append_assoc a (l.mark k ∷ []) after) (postfix_goes (l.mark k ∷ after) d (omega arith) (unopened_step k op after s)) (step_suffix k op s)
+      goes_on x (e.Postfix op x) h (h + 1) (a ++ l.terminal k ∷ after) _ after after k (suffix_for op) (append_assoc a (l.terminal k ∷ []) after) (postfix_goes (l.terminal k ∷ after) d (omega arith) (unopened_step k op after s)) (step_suffix k op s)
       (step_complete x h op after (omega arith)) (omega arith) low
 
   postfix_stops : (n : ℕ) (x : Found) (after : List Lexeme) → 0 < n → follows after ≤ 12 → postfix_from inner room n x after ≡ Some (x, after)
@@ -393,12 +393,12 @@ module _ (inner : ℕ → Parser Found) (room : ℕ) (comp : Complete inner room
     between : List Lexeme
     turns : ℕ
     reads : unary inner room ts ≡ Some (start, between)
-    quiet : of_mark (storing base) (first between) ≡ None
+    quiet : of_terminal (storing base) (first between) ≡ None
     left : room + 1 < turns + h
     goes : (k : ℕ) → k ≤ j → climb inner room (room + 1) k start between ≡ climb inner room turns k (x, h) after
 
   chain : (base : ℕ) {j h : ℕ} {x : Expr} {a : List Lexeme} (after : List Lexeme) → 2 ≤ j → IsExpr j x a h → h ≤ room + 1
-      → follows after ≤ j + 1 → follows after ≤ 12 → of_mark (storing base) (first after) ≡ None → Chain base j x h (a ++ after) after
+      → follows after ≤ j + 1 → follows after ≤ 12 → of_terminal (storing base) (first after) ≡ None → Chain base j x h (a ++ after) after
   unfolding climb
   chain base {j} after two (g.unary {h} {x} {a} d) low quiet quiet' none =
       let high = high_unary d in
@@ -407,25 +407,25 @@ module _ (inner : ℕ → Parser Found) (room : ℕ) (comp : Complete inner room
       let ts = b ++ after in
       let is = binds_op k op s in
       let top = loose op in
-      let c = chain base (l.mark k ∷ ts) (tight_enough op) d (omega arith) (omega arith) (omega arith) (op_no_store base k op s (tight_enough op)) in
+      let c = chain base (l.terminal k ∷ ts) (tight_enough op) d (omega arith) (omega arith) (omega arith) (op_no_store base k op s (tight_enough op)) in
       let left = c.left in
       let n : c.turns ≡ suc (c.turns - 1) = omega arith in
       record {
         start = c.start;
         between = c.between;
         turns = c.turns - 1;
-        reads = ap (unary inner room) (append_assoc a (l.mark k ∷ b) after) ∙ c.reads;
+        reads = ap (unary inner room) (append_assoc a (l.terminal k ∷ b) after) ∙ c.reads;
         quiet = c.quiet;
         left = omega arith;
         goes = λ t least.
-            c.goes t (omega arith) ∙ ap (λ m. climb inner room m t (x, h) (l.mark k ∷ ts)) n
+            c.goes t (omega arith) ∙ ap (λ m. climb inner room m t (x, h) (l.terminal k ∷ ts)) n
             ∙ takes (operator t) k op ts (joined inner room (x, h) (climb inner room (c.turns - 1) t)) (ap (at_least t) s ∙ tight t op (omega arith))
             (bound _ (comp (level op + 1) i y b after (omega arith) d' (omega arith) (omega arith)) (bound _ (node_in room (max h i) after (omega arith)) refl));
       }
   chain base after two (g.choice le d d' d'') low quiet quiet' none = absurd (omega arith)
   chain base after two (g.assign k op s z d d') low quiet quiet' none = absurd (omega arith)
 
-  climb_stops : (n k : ℕ) (x : Found) (after : List Lexeme) → 0 < n → of_mark (operator k) (first after) ≡ None → climb inner room n k x after ≡ Some (x, after)
+  climb_stops : (n k : ℕ) (x : Found) (after : List Lexeme) → 0 < n → of_terminal (operator k) (first after) ≡ None → climb inner room n k x after ≡ Some (x, after)
   unfolding climb
   climb_stops zero k x after some quiet = absurd (omega arith)
   climb_stops (suc n) k x after some quiet = leaves _ after _ (joined inner room x (climb inner room n k)) quiet refl
@@ -456,7 +456,7 @@ module _ (inner : ℕ → Parser Found) (room : ℕ) (comp : Complete inner room
       (chain k after (omega arith) (g.unary d) low (omega arith) (omega arith) (quiet_store k after quiet))
   whole_complete k _ _ _ after five (g.binary {h} {i} {x} {y} {a} {b} j op s le d d') low quiet =
       let two = tight_enough op in
-      chain_ends k (max k 2) (e.Binary op x y) (max h i + 1) ((a ++ l.mark j ∷ b) ++ after) after (omega arith) low quiet
+      chain_ends k (max k 2) (e.Binary op x y) (max h i + 1) ((a ++ l.terminal j ∷ b) ++ after) after (omega arith) low quiet
       (chain k after (omega arith) (g.binary j op s (omega arith) d d') low (omega arith) (omega arith) (quiet_store k after quiet))
   whole_complete k _ _ _ after five (g.choice {h} {i} {j} {x} {y} {z} {a} {b} {c} one d d' d'') low quiet =
       let us = c ++ after in
@@ -470,14 +470,14 @@ module _ (inner : ℕ → Parser Found) (room : ℕ) (comp : Complete inner room
       (bound _ (r.goes (max k 2) (omega arith) ∙ climb_stops r.turns (max k 2) (x, h) (sign p.Question ∷ ts) (omega arith) refl)
       (rw asks (eats (m.Punct p.Question) ts _ _
       (bound _ (comp 0 i y b (sign p.Colon ∷ us) (omega arith) d' (omega arith) (omega arith))
-      (bound _ (expect_mark (m.Punct p.Colon) us) (bound _ (comp 1 j z c after (omega arith) d'' (omega arith) (omega arith))
+      (bound _ (expect_terminal (m.Punct p.Colon) us) (bound _ (comp 1 j z c after (omega arith) d'' (omega arith) (omega arith))
       (bound _ (node_in room (max h (max i j)) after (omega arith)) refl))))))))
   whole_complete k _ _ _ after five (g.assign {h} {i} {x} {y} {a} {b} j op s z d d') low quiet =
       let us = b ++ after in
       let one = binds_store j op s in
       let is : storing k j ≡ Some op = ap (λ n. storing n j) z ∙ s in
-      ap (whole inner room k) (append_assoc a (l.mark j ∷ b) after)
-      ∙ bound _ (unary_complete (l.mark j ∷ us) d (omega arith) (omega arith))
+      ap (whole inner room k) (append_assoc a (l.terminal j ∷ b) after)
+      ∙ bound _ (unary_complete (l.terminal j ∷ us) d (omega arith) (omega arith))
       (takes (storing k) j op us (stored inner room k (x, h)) is
       (bound _ (comp 0 i y b after (omega arith) d' (omega arith) (omega arith)) (bound _ (node_in room (max h i) after (omega arith)) refl)))
 

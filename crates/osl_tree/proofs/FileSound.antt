@@ -1,9 +1,9 @@
 -- What is read as a structure, a function, a shader or a source is spelled.
 use Rattle.std.proofs.Common.{◌≡◌, ℕ, zero, suc, ◌+◌, ◌≤◌, ◌<◌, max, Bool, true, false, if◌then◌else◌, List, [], ◌∷◌, ◌++◌, length, Some, refl, sym, ap, ◌∙◌, arith, append_assoc, append-nil, subst, inl, inr}
 use Rattle.osl_tree.specs.declared.token.Punct.TheVariants as p
-use Rattle.osl_tree.specs.declared.mark.Keyword.TheVariants as w
-use Rattle.osl_tree.specs.declared.mark.Mark.{Mark}
-use Rattle.osl_tree.specs.declared.mark.Mark.TheVariants as m
+use Rattle.osl_tree.specs.declared.terminal.Keyword.TheVariants as w
+use Rattle.osl_tree.specs.declared.terminal.Terminal.{Terminal}
+use Rattle.osl_tree.specs.declared.terminal.Terminal.TheVariants as m
 use Rattle.osl_tree.specs.Lexeme.{Lexeme}
 use Rattle.osl_tree.specs.Lexeme as l
 use Rattle.osl_tree.specs.declared.tree.Fields.{Fields}
@@ -12,13 +12,13 @@ use Rattle.osl_tree.specs.declared.tree.Formal.{Formal}
 use Rattle.osl_tree.specs.declared.tree.Definition.{Definition}
 use Rattle.osl_tree.specs.declared.tree.Datum.{Datum}
 use Rattle.osl_tree.specs.declared.tree.Param.{Param}
-use Rattle.osl_tree.specs.declared.tree.ShaderKind.{ShaderKind}
+use Rattle.osl_value.specs.declared.shader_kind.ShaderKind.{ShaderKind}
 use Rattle.osl_tree.specs.declared.tree.Shader.{Shader}
 use Rattle.osl_tree.specs.declared.tree.Tree.{Tree}
-use Rattle.osl_tree.specs.Marks.{sign, key, kind_of}
+use Rattle.osl_tree.specs.Terminals.{sign, key, kind_of}
 use Rattle.osl_tree.specs.Statements.{IsItem, IsBlock}
 use Rattle.osl_tree.specs.Files as g
-use Rattle.osl_tree.specs.Files.{AreTrailed, AreFields, IsStructure, output_mark, IsFormal, AreFormals, IsResult, IsFunction, IsDefinition, IsDatum, IsMetadata, IsParam, AreParams, IsShader, AreDefinitions, IsTree}
+use Rattle.osl_tree.specs.Files.{AreTrailed, AreFields, IsStructure, output_word, IsFormal, AreFormals, IsResult, IsFunction, IsDefinition, IsDatum, IsMetadata, IsParam, AreParams, IsShader, AreDefinitions, IsTree}
 use Rattle.osl_tree.specs.Parser.{Parser, rest, sees, expect, name, type_name, listed, trailed}
 use Rattle.osl_tree.specs.StatementReading.{item, init, stmt}
 use Rattle.osl_tree.specs.FileReading.{fields_from, structure, formal_from, formal, formals, body, returns, function, definition, datum, metadata, param_from, param, params, shader, Definitions, up_to_kind, definitions_from, source_of, source}
@@ -103,7 +103,7 @@ structure_sound room ts after x eq =
 record Marked {B : Type 0} (ts : List Lexeme) (go : Bool → Parser B) (y : B) (after : List Lexeme) : Type 0 where
   output : Bool
   between : List Lexeme
-  split : ts ≡ output_mark output ++ between
+  split : ts ≡ output_word output ++ between
   goes : go output between ≡ Some (y, after)
 
 marked : {B : Type 0} (ts : List Lexeme) (go : Bool → Parser B) (y : B) (after : List Lexeme)
@@ -127,8 +127,8 @@ formal_sound room ts after x eq =
     let r = item_sound b.between i.between i.value i.was in
     let n = raised room (max b.value.1 i.value.1) i.between _ x after i.goes in
     ended (λ y vs. Spelt IsFormal (room + 1) ts y vs) n.goes (record {
-      front = output_mark o.output ++ d.front ++ r.front;
-      split = o.split ∙ ap (λ vs. output_mark o.output ++ vs) (d.split ∙ ap (λ vs. d.front ++ vs) r.split) ∙ sym (formal_tokens (output_mark o.output) d.front r.front i.between);
+      front = output_word o.output ++ d.front ++ r.front;
+      split = o.split ∙ ap (λ vs. output_word o.output ++ vs) (d.split ∙ ap (λ vs. d.front ++ vs) r.split) ∙ sym (formal_tokens (output_word o.output) d.front r.front i.between);
       is = g.formal o.output d.is r.is;
       low = let low = n.low in omega arith;
     })
@@ -275,9 +275,9 @@ param_sound room ts after x eq =
     let z = metadata_sound room v.between u.between u.value u.was in
     let n = raised room (max (max b.value.1 i.value.1) (max v.value.1 u.value.1)) u.between _ x after u.goes in
     ended (λ y vs. Spelt IsParam (room + 1) ts y vs) n.goes (record {
-      front = output_mark o.output ++ d.front ++ r.front ++ sign p.Assign ∷ t.front ++ z.front;
-      split = o.split ∙ ap (λ vs. output_mark o.output ++ vs) (d.split ∙ ap (λ vs. d.front ++ vs) (r.split ∙ ap (λ vs. r.front ++ vs) (f ∙ ap (λ vs. sign p.Assign ∷ vs) (t.split ∙ ap (λ vs. t.front ++ vs) z.split))))
-          ∙ sym (param_tokens (output_mark o.output) d.front r.front t.front z.front u.between);
+      front = output_word o.output ++ d.front ++ r.front ++ sign p.Assign ∷ t.front ++ z.front;
+      split = o.split ∙ ap (λ vs. output_word o.output ++ vs) (d.split ∙ ap (λ vs. d.front ++ vs) (r.split ∙ ap (λ vs. r.front ++ vs) (f ∙ ap (λ vs. sign p.Assign ∷ vs) (t.split ∙ ap (λ vs. t.front ++ vs) z.split))))
+          ∙ sym (param_tokens (output_word o.output) d.front r.front t.front z.front u.between);
       is = g.param o.output d.is r.is t.is z.is;
       low = let low = n.low in omega arith;
     })
@@ -298,7 +298,7 @@ params_sound room ts after x eq =
 pub shader_tokens : (k word : Lexeme) (a b c after : List Lexeme) → (k ∷ word ∷ a ++ sign p.OpenParen ∷ b ++ sign p.CloseParen ∷ c) ++ after ≡ k ∷ word ∷ (a ++ sign p.OpenParen ∷ (b ++ sign p.CloseParen ∷ (c ++ after)))
 shader_tokens k word a b c after = simp append_assoc
 
-shader_sound : (room : ℕ) (k : Mark) (kind : ShaderKind) → kind_of k ≡ Some kind → (ts after : List Lexeme) (x : Shader × ℕ) → shader room kind ts ≡ Some (x, after) → Spelt IsShader (room + 1) (l.mark k ∷ ts) x after
+shader_sound : (room : ℕ) (k : Terminal) (kind : ShaderKind) → kind_of k ≡ Some kind → (ts after : List Lexeme) (x : Shader × ℕ) → shader room kind ts ≡ Some (x, after) → Spelt IsShader (room + 1) (l.terminal k ∷ ts) x after
 unfolding shader
 shader_sound room k kind is ts after x eq =
     let b = steps (name ts) _ x after eq in
@@ -314,24 +314,24 @@ shader_sound room k kind is ts after x eq =
     let v = steps (body room c.between) _ x after c.goes in
     let t = body_sound room c.between v.between v.value v.was in
     let n = raised room (max a.value.1 (max i.value.1 v.value.1)) v.between _ x after v.goes in
-    ended (λ y vs. Spelt IsShader (room + 1) (l.mark k ∷ ts) y vs) n.goes (record {
-      front = l.mark k ∷ l.name b.value ∷ d.front ++ sign p.OpenParen ∷ r.front ++ sign p.CloseParen ∷ t.front;
-      split = ap (λ vs. l.mark k ∷ vs) (e ∙ ap (λ vs. l.name b.value ∷ vs) (d.split ∙ ap (λ vs. d.front ++ vs) (f ∙ ap (λ vs. sign p.OpenParen ∷ vs) (r.split ∙ ap (λ vs. r.front ++ vs) (f' ∙ ap (λ vs. sign p.CloseParen ∷ vs) t.split)))))
-          ∙ sym (shader_tokens (l.mark k) (l.name b.value) d.front r.front t.front v.between);
+    ended (λ y vs. Spelt IsShader (room + 1) (l.terminal k ∷ ts) y vs) n.goes (record {
+      front = l.terminal k ∷ l.name b.value ∷ d.front ++ sign p.OpenParen ∷ r.front ++ sign p.CloseParen ∷ t.front;
+      split = ap (λ vs. l.terminal k ∷ vs) (e ∙ ap (λ vs. l.name b.value ∷ vs) (d.split ∙ ap (λ vs. d.front ++ vs) (f ∙ ap (λ vs. sign p.OpenParen ∷ vs) (r.split ∙ ap (λ vs. r.front ++ vs) (f' ∙ ap (λ vs. sign p.CloseParen ∷ vs) t.split)))))
+          ∙ sym (shader_tokens (l.terminal k) (l.name b.value) d.front r.front t.front v.between);
       is = g.shader k kind b.value is d.is r.is t.is;
       low = let low = n.low in omega arith;
     })
 
 -- ---- sources
 
--- definitions, after those that were read, and the mark of the shader behind them
+-- definitions, after those that were read, and the terminal of the shader after them
 record DefinitionsRead (xs : List Definition) (h : ℕ) (ts : List Lexeme) (ys : Definitions) (after : List Lexeme) : Type 0 where
   next : List Definition
   high : ℕ
   front : List Lexeme
-  mark : Mark
-  kind : kind_of mark ≡ Some ys.1
-  split : ts ≡ front ++ l.mark mark ∷ after
+  terminal : Terminal
+  kind : kind_of terminal ≡ Some ys.1
+  split : ts ≡ front ++ l.terminal terminal ∷ after
   is : AreDefinitions next front high
   all : ys.0.0 ≡ xs ++ next
   peak : ys.0.1 ≡ max h high
@@ -342,7 +342,7 @@ definitions_sound room zero xs h ts after ys some eq = cc
 definitions_sound room (suc n) xs h ts after ys some eq =
     elim (taking kind_of ts (up_to_kind (xs, h) (definition room) (definitions_from room n)) ys after eq) [
       | took k kind us e se eq ↦ ended (λ y vs. DefinitionsRead xs h ts y vs) eq
-          (record { next = []; high = 1; front = []; mark = k; kind = e; split = se; is = g.end; all = sym (append-nil xs); peak = omega arith })
+          (record { next = []; high = 1; front = []; terminal = k; kind = e; split = se; is = g.end; all = sym (append-nil xs); peak = omega arith })
       | left f eq ↦
           let b = steps (definition room ts) _ ys after eq in
           let d = definition_sound room ts b.between b.value b.was in
@@ -352,9 +352,9 @@ definitions_sound room (suc n) xs h ts after ys some eq =
             next = b.value.0 ∷ r.next;
             high = max b.value.1 r.high;
             front = d.front ++ r.front;
-            mark = r.mark;
+            terminal = r.terminal;
             kind = r.kind;
-            split = d.split ∙ ap (λ vs. d.front ++ vs) r.split ∙ sym (append_assoc d.front r.front (l.mark r.mark ∷ after));
+            split = d.split ∙ ap (λ vs. d.front ++ vs) r.split ∙ sym (append_assoc d.front r.front (l.terminal r.terminal ∷ after));
             is = g.more d.is r.is;
             all = r.all ∙ append_assoc xs (b.value.0 ∷ []) r.next;
             peak = omega arith;
@@ -385,7 +385,7 @@ source_sound room ts after y eq =
     let b = steps (definitions_from room (length ts) ([], 1) ts) _ y after eq in
     let d = definitions_sound room (length ts) [] 1 ts b.between b.value (omega arith) b.was in
     let i = steps (shader room b.value.1 b.between) _ y after b.goes in
-    let r = shader_sound room d.mark b.value.1 d.kind b.between i.between i.value i.was in
+    let r = shader_sound room d.terminal b.value.1 d.kind b.between i.between i.value i.was in
     let k = definitions_high d.is in
     let peak : b.value.0.1 ≡ d.high = let q = d.peak in omega arith in
     let are = subst (λ zs. AreDefinitions zs d.front b.value.0.1) (sym d.all) (subst (λ t. AreDefinitions d.next d.front t) (sym peak) d.is) in

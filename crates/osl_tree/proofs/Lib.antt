@@ -9,3 +9,4 @@ pub mod FileSound
 pub mod FileComplete
 pub mod Parsed
 pub mod Texts
+pub mod Within

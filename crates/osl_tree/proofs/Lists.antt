@@ -1,14 +1,14 @@
 -- Lists with commas between their items: what is read is spelled, and what is spelled is read.
 use Rattle.std.proofs.Common.{◌≡◌, ℕ, zero, suc, ◌≤◌, ◌<◌, max, Bool, true, false, not, ◌&&◌, if◌then◌else◌, List, [], ◌∷◌, ◌++◌, length, Some, refl, sym, ap, ◌∙◌, arith, append_assoc, length-append, subst}
 use Rattle.osl_tree.specs.declared.token.Punct.TheVariants as p
-use Rattle.osl_tree.specs.declared.mark.Mark.{Mark}
-use Rattle.osl_tree.specs.declared.mark.Mark.TheVariants as m
+use Rattle.osl_tree.specs.declared.terminal.Terminal.{Terminal}
+use Rattle.osl_tree.specs.declared.terminal.Terminal.TheVariants as m
 use Rattle.osl_tree.specs.Lexeme.{Lexeme}
-use Rattle.osl_tree.specs.Marks.{sign}
+use Rattle.osl_tree.specs.Terminals.{sign}
 use Rattle.osl_tree.specs.Statements.{AreListed, last, more}
 use Rattle.osl_tree.specs.Files.{AreTrailed, bare, with_comma}
-use Rattle.osl_tree.specs.Parser.{Read, Parser, same_mark, rest, sees, listed_from, listed, trailed_from, trailed}
-use Rattle.osl_tree.proofs.Steps.{steps, ended, seen, sees_mark, ate, did, didn't, bound, eats, skips}
+use Rattle.osl_tree.specs.Parser.{Read, Parser, same_terminal, rest, sees, listed_from, listed, trailed_from, trailed}
+use Rattle.osl_tree.proofs.Steps.{steps, ended, seen, sees_terminal, ate, did, didn't, bound, eats, skips}
 
 -- the tree x and its height are spelled by the tokens in front of after
 pub record Spelt {A : Type 0} (Is : A → List Lexeme → ℕ → Type 0) (top : ℕ) (ts : List Lexeme) (x : A × ℕ) (after : List Lexeme) : Type 0 where
@@ -156,14 +156,14 @@ module _ {A : Type 0} (Is : A → List Lexeme → ℕ → Type 0) (top : ℕ) (o
         low = omega arith;
       }
 
-  behind_comma : (close : Mark) (go : List A → ℕ → Parser (List A × ℕ)) (xs : List A) (h : ℕ) (ts between us after : List Lexeme) (x : A × ℕ) (ys : List A × ℕ)
+  behind_comma : (close : Terminal) (go : List A → ℕ → Parser (List A × ℕ)) (xs : List A) (h : ℕ) (ts between us after : List Lexeme) (x : A × ℕ) (ys : List A × ℕ)
       → ((zs : List A) (i : ℕ) (vs : List Lexeme) → go zs i vs ≡ Some (ys, after) → Further zs i vs ys after)
       → Spelt Is top ts x between → between ≡ sign p.Comma ∷ us → (b : Bool)
       → (if not b then go (xs ++ x.0 ∷ []) (max h x.1) else (λ vs. Some ((xs ++ x.0 ∷ [], max h x.1), vs))) us ≡ Some (ys, after) → Further xs h ts ys after
   behind_comma close go xs h ts between us after x ys again d s true e = last_with_comma xs h ts between us after x ys d s e
   behind_comma close go xs h ts between us after x ys again d s false e = trailed_further xs h ts between us after x ys d s (again _ _ us e)
 
-  behind_item : (close : Mark) (go : List A → ℕ → Parser (List A × ℕ)) (xs : List A) (h : ℕ) (ts between after : List Lexeme) (x : A × ℕ) (ys : List A × ℕ)
+  behind_item : (close : Terminal) (go : List A → ℕ → Parser (List A × ℕ)) (xs : List A) (h : ℕ) (ts between after : List Lexeme) (x : A × ℕ) (ys : List A × ℕ)
       → ((zs : List A) (i : ℕ) (vs : List Lexeme) → go zs i vs ≡ Some (ys, after) → Further zs i vs ys after)
       → Spelt Is top ts x between → (b : Bool) → sees (m.Punct p.Comma) between ≡ b
       → (if b && not (sees close (if b then rest between else between)) then go (xs ++ x.0 ∷ []) (max h x.1) else (λ us. Some ((xs ++ x.0 ∷ [], max h x.1), us)))
@@ -171,7 +171,7 @@ module _ {A : Type 0} (Is : A → List Lexeme → ℕ → Type 0) (top : ℕ) (o
   behind_item close go xs h ts between after x ys again d true s e = behind_comma close go xs h ts between (rest between) after x ys again d (seen (m.Punct p.Comma) between s) (sees close (rest between)) e
   behind_item close go xs h ts between after x ys again d false s e = last_trailed xs h ts between after x ys d e
 
-  trailed_from_sound : (close : Mark) (n : ℕ) (xs : List A) (h : ℕ) (ts after : List Lexeme) (ys : List A × ℕ) → trailed_from close one n xs h ts ≡ Some (ys, after) → Further xs h ts ys after
+  trailed_from_sound : (close : Terminal) (n : ℕ) (xs : List A) (h : ℕ) (ts after : List Lexeme) (ys : List A × ℕ) → trailed_from close one n xs h ts ≡ Some (ys, after) → Further xs h ts ys after
   unfolding trailed_from
   trailed_from_sound close zero xs h ts after ys eq = cc
   trailed_from_sound close (suc n) xs h ts after ys eq =
@@ -179,7 +179,7 @@ module _ {A : Type 0} (Is : A → List Lexeme → ℕ → Type 0) (top : ℕ) (o
       let d = sound ts s.between s.value s.was in
       behind_item close (trailed_from close one n) xs h ts s.between after s.value ys (λ zs i vs e. trailed_from_sound close n zs i vs after ys e) d (sees (m.Punct p.Comma) s.between) refl s.goes
 
-  pub trailed_sound : (close : Mark) → SoundFor (AreTrailed Is) top (trailed close one)
+  pub trailed_sound : (close : Terminal) → SoundFor (AreTrailed Is) top (trailed close one)
   unfolding trailed
   trailed_sound close ts after ys eq =
       let r = trailed_from_sound close (length ts) [] 1 ts after ys eq in
@@ -229,7 +229,7 @@ module _ {A : Type 0} (Is : A → List Lexeme → ℕ → Type 0) (top : ℕ) (o
 
   -- ---- with a comma behind the last
 
-  module _ (close : Mark) (closes : (ts : List Lexeme) → sees close ts ≡ true → Follows ts) (other : same_mark close (m.Punct p.Comma) ≡ false)
+  module _ (close : Terminal) (closes : (ts : List Lexeme) → sees close ts ≡ true → Follows ts) (other : same_terminal close (m.Punct p.Comma) ≡ false)
       (not_close : (x : A) (a : List Lexeme) (h : ℕ) (c : List Lexeme) → Is x a h → sees close (a ++ c) ≡ false) where
     no_comma : (ts : List Lexeme) → sees close ts ≡ true → sees (m.Punct p.Comma) ts ≡ false
     unfolding sees
@@ -242,7 +242,7 @@ module _ {A : Type 0} (Is : A → List Lexeme → ℕ → Type 0) (top : ℕ) (o
     behind : (us : List Lexeme) (this other : Parser (List A × ℕ)) (b : Bool) {y : Read (List A × ℕ)} → sees close us ≡ b → (if not b then this else other) us ≡ y
         → (if sees (m.Punct p.Comma) (sign p.Comma ∷ us) && not (sees close (if sees (m.Punct p.Comma) (sign p.Comma ∷ us) then us else sign p.Comma ∷ us)) then this else other)
         (if sees (m.Punct p.Comma) (sign p.Comma ∷ us) then us else sign p.Comma ∷ us) ≡ y
-    behind us this other b s e = rw (sees_mark (m.Punct p.Comma) us) (rw s e)
+    behind us this other b s e = rw (sees_terminal (m.Punct p.Comma) us) (rw s e)
 
     trailed_from_complete : (n : ℕ) {next : List A} {a : List Lexeme} {h : ℕ} (xs : List A) (i : ℕ) (after : List Lexeme) → AreListed Is next a h → h ≤ top → length next ≤ n
         → sees close after ≡ true

@@ -3,8 +3,8 @@ use Rattle.std.proofs.Common.{◌≡◌, ℕ, zero, suc, ◌+◌, ◌≤◌, ◌
 use Rattle.std.proofs.lemmas.Bool.Decides.{nat_tests}
 use Rattle.std.proofs.lemmas.Option.{cond_some}
 use Rattle.osl_tree.specs.declared.token.Punct.TheVariants as p
-use Rattle.osl_tree.specs.declared.mark.Mark.{Mark}
-use Rattle.osl_tree.specs.declared.mark.Mark.TheVariants as m
+use Rattle.osl_tree.specs.declared.terminal.Terminal.{Terminal}
+use Rattle.osl_tree.specs.declared.terminal.Terminal.TheVariants as m
 use Rattle.osl_tree.specs.Lexeme.{Lexeme}
 use Rattle.osl_tree.specs.Lexeme as l
 use Rattle.osl_tree.specs.declared.expr.PostfixOp.{PostfixOp}
@@ -15,12 +15,12 @@ use Rattle.osl_tree.specs.declared.expr.BinaryOp.{BinaryOp}
 use Rattle.osl_tree.specs.declared.expr.BinaryOp.TheVariants as binaries
 use Rattle.osl_tree.specs.declared.expr.AssignOp.{AssignOp}
 use Rattle.osl_tree.specs.declared.expr.Expr.{Expr}
-use Rattle.osl_tree.specs.Marks.{sign, prefix_of, postfix_of, binary_of, level, assign_of}
+use Rattle.osl_tree.specs.Terminals.{sign, prefix_of, postfix_of, binary_of, level, assign_of}
 use Rattle.osl_tree.specs.Grammar as g
 use Rattle.osl_tree.specs.Grammar.{IsBase, IsExpr, IsUnary, IsPostfix, IsPrimary, AreArguments, AreExprs}
 use Rattle.osl_tree.specs.Statements as s
 use Rattle.osl_tree.specs.Statements.{AreListed}
-use Rattle.osl_tree.specs.Parser.{Parser, first, rest, of_mark, sees, expect, name, listed, is_name, past}
+use Rattle.osl_tree.specs.Parser.{Parser, first, rest, of_terminal, sees, expect, name, listed, is_name, past}
 use Rattle.osl_tree.specs.Reading.{at_least, operator, storing, is_asking, Found, suffix_of, arguments, word, parenthesised, literal_of, name_or_paren, leaf, constructed, primary, index, field, stepped, suffixed, continued, postfix_from, postfix, cast, prefixed, unary, joined, climb, chosen, binary, stored, whole, expr}
 use Rattle.osl_tree.proofs.Steps.{steps, expected, raised, named, did, didn't, ate, took, left, taking, bases', baseless, basing, casts, uncast, casting, ended, decided}
 use Rattle.osl_tree.proofs.Begins.{high_expr}
@@ -28,7 +28,7 @@ use Rattle.osl_tree.proofs.Lists.{Spelt, respelt, SoundFor, listed_sound}
 
 -- no operator of this level or a tighter one comes next
 abbrev pub Ends : ℕ → List Lexeme → Type 0
-Ends k ts = (op : BinaryOp) → of_mark binary_of (first ts) ≡ Some op → level op < k
+Ends k ts = (op : BinaryOp) → of_terminal binary_of (first ts) ≡ Some op → level op < k
 
 pub record SpeltAt (k top : ℕ) (ts : List Lexeme) (x : Found) (after : List Lexeme) : Type 0 where
   pub spelt : Spelt (IsExpr k) top ts x after
@@ -75,7 +75,7 @@ pub to_exprs : {xs : List Expr} {a : List Lexeme} {h : ℕ} → AreListed (IsExp
 to_exprs (s.last d) = g.last d
 to_exprs (s.more d d') = g.more d (to_exprs d')
 
-operator_is : (k : ℕ) (j : Mark) (op : BinaryOp) → operator k j ≡ Some op → (binary_of j ≡ Some op) × (k ≤ level op)
+operator_is : (k : ℕ) (j : Terminal) (op : BinaryOp) → operator k j ≡ Some op → (binary_of j ≡ Some op) × (k ≤ level op)
 operator_is k j op e = by (binary_of j) e
   where
     by : (o : Option BinaryOp) → at_least k o ≡ Some op → (o ≡ Some op) × (k ≤ level op)
@@ -89,30 +89,30 @@ looser k op e = by (nat_le k (level op)) refl e
     by true s e = cc
     by false s e = grind (arith, nat_tests)
 
-no_operator : (k : ℕ) (ts : List Lexeme) → of_mark (operator k) (first ts) ≡ None → Ends k ts
+no_operator : (k : ℕ) (ts : List Lexeme) → of_terminal (operator k) (first ts) ≡ None → Ends k ts
 no_operator k [] e op s = cc
 no_operator k (l.name bytes ∷ ts) e op s = cc
 no_operator k (l.int n ∷ ts) e op s = cc
 no_operator k (l.float units ∷ ts) e op s = cc
 no_operator k (l.text bytes ∷ ts) e op s = cc
-no_operator k (l.mark j ∷ ts) e op s = looser k op (ap (at_least k) (sym s) ∙ e)
+no_operator k (l.terminal j ∷ ts) e op s = looser k op (ap (at_least k) (sym s) ∙ e)
 
-storing_is : (k : ℕ) (j : Mark) (op : AssignOp) → storing k j ≡ Some op → (assign_of j ≡ Some op) × (k ≡ 0)
+storing_is : (k : ℕ) (j : Terminal) (op : AssignOp) → storing k j ≡ Some op → (assign_of j ≡ Some op) × (k ≡ 0)
 storing_is zero j op e = (e, refl)
 storing_is (suc k) j op e = cc
 
--- the mark that begins a suffix
-abbrev suffix_mark : Suffix → Mark
-suffix_mark suffixes.Index = m.Punct p.OpenBracket
-suffix_mark suffixes.Field = m.Punct p.Dot
-suffix_mark suffixes.Increment = m.Punct p.Increment
-suffix_mark suffixes.Decrement = m.Punct p.Decrement
+-- the terminal that begins a suffix
+abbrev suffix_terminal : Suffix → Terminal
+suffix_terminal suffixes.Index = m.Punct p.OpenBracket
+suffix_terminal suffixes.Field = m.Punct p.Dot
+suffix_terminal suffixes.Increment = m.Punct p.Increment
+suffix_terminal suffixes.Decrement = m.Punct p.Decrement
 
-suffix_is : (k : Mark) (o : Suffix) → suffix_of k ≡ Some o → k ≡ suffix_mark o
-suffix_is (m.Punct p.OpenBracket) o e = let q : suffixes.Index ≡ o = grind arith in ap suffix_mark q
-suffix_is (m.Punct p.Dot) o e = let q : suffixes.Field ≡ o = grind arith in ap suffix_mark q
-suffix_is (m.Punct p.Increment) o e = let q : suffixes.Increment ≡ o = grind arith in ap suffix_mark q
-suffix_is (m.Punct p.Decrement) o e = let q : suffixes.Decrement ≡ o = grind arith in ap suffix_mark q
+suffix_is : (k : Terminal) (o : Suffix) → suffix_of k ≡ Some o → k ≡ suffix_terminal o
+suffix_is (m.Punct p.OpenBracket) o e = let q : suffixes.Index ≡ o = grind arith in ap suffix_terminal q
+suffix_is (m.Punct p.Dot) o e = let q : suffixes.Field ≡ o = grind arith in ap suffix_terminal q
+suffix_is (m.Punct p.Increment) o e = let q : suffixes.Increment ≡ o = grind arith in ap suffix_terminal q
+suffix_is (m.Punct p.Decrement) o e = let q : suffixes.Decrement ≡ o = grind arith in ap suffix_terminal q
 suffix_is (m.Punct _) o e = cc
 suffix_is (m.Keyword k) o e = cc
 
@@ -200,7 +200,7 @@ module _ (inner : ℕ → Parser Found) (room : ℕ) (sound : Sound inner room) 
   leaf_sound (l.int n ∷ ts) after x eq = ended (λ y vs. Spelt IsPrimary (room + 1) (l.int n ∷ ts) y vs) eq (record { front = l.int n ∷ []; split = refl; is = g.int n; low = omega arith })
   leaf_sound (l.float n ∷ ts) after x eq = ended (λ y vs. Spelt IsPrimary (room + 1) (l.float n ∷ ts) y vs) eq (record { front = l.float n ∷ []; split = refl; is = g.float n; low = omega arith })
   leaf_sound (l.text bytes ∷ ts) after x eq = ended (λ y vs. Spelt IsPrimary (room + 1) (l.text bytes ∷ ts) y vs) eq (record { front = l.text bytes ∷ []; split = refl; is = g.text bytes; low = omega arith })
-  leaf_sound (l.mark k ∷ ts) after x eq = name_or_paren_sound (l.mark k ∷ ts) after x eq
+  leaf_sound (l.terminal k ∷ ts) after x eq = name_or_paren_sound (l.terminal k ∷ ts) after x eq
 
   primary_sound : SoundFor IsPrimary (room + 1) (primary inner room)
   unfolding primary
@@ -219,20 +219,20 @@ module _ (inner : ℕ → Parser Found) (room : ℕ) (sound : Sound inner room) 
         | baseless none eq ↦ leaf_sound ts after x eq
       ]
 
-  step_is : (o : Suffix) (op : PostfixOp) → postfix_of (suffix_mark o) ≡ Some op → (x : Found) (a ts after : List Lexeme) (y : Found) → IsPostfix x.0 a x.1
-      → stepped inner room op x ts ≡ Some (y, after) → Spelt IsPostfix (room + 1) (a ++ l.mark (suffix_mark o) ∷ ts) y after
+  step_is : (o : Suffix) (op : PostfixOp) → postfix_of (suffix_terminal o) ≡ Some op → (x : Found) (a ts after : List Lexeme) (y : Found) → IsPostfix x.0 a x.1
+      → stepped inner room op x ts ≡ Some (y, after) → Spelt IsPostfix (room + 1) (a ++ l.terminal (suffix_terminal o) ∷ ts) y after
   unfolding stepped
   step_is o op s x a ts after y d eq =
       let h = raised room x.1 ts _ y after eq in
-      ended (λ z vs. Spelt IsPostfix (room + 1) (a ++ l.mark (suffix_mark o) ∷ ts) z vs) h.goes (record {
-        front = a ++ l.mark (suffix_mark o) ∷ [];
-        split = sym (append_assoc a (l.mark (suffix_mark o) ∷ []) ts);
-        is = g.step (suffix_mark o) op s d;
+      ended (λ z vs. Spelt IsPostfix (room + 1) (a ++ l.terminal (suffix_terminal o) ∷ ts) z vs) h.goes (record {
+        front = a ++ l.terminal (suffix_terminal o) ∷ [];
+        split = sym (append_assoc a (l.terminal (suffix_terminal o) ∷ []) ts);
+        is = g.step (suffix_terminal o) op s d;
         low = let low = h.low in omega arith;
       })
 
   suffixed_sound : (o : Suffix) (x : Found) (a ts after : List Lexeme) (y : Found) → IsPostfix x.0 a x.1
-      → suffixed inner room x o ts ≡ Some (y, after) → Spelt IsPostfix (room + 1) (a ++ l.mark (suffix_mark o) ∷ ts) y after
+      → suffixed inner room x o ts ≡ Some (y, after) → Spelt IsPostfix (room + 1) (a ++ l.terminal (suffix_terminal o) ∷ ts) y after
   unfolding index field
   suffixed_sound suffixes.Index x a ts after y d eq =
       let s = steps (inner 0 ts) _ y after eq in
@@ -269,7 +269,7 @@ module _ (inner : ℕ → Parser Found) (room : ℕ) (sound : Sound inner room) 
         | took k o us e se eq ↦
             let s = steps (suffixed inner room x o us) _ y after eq in
             let r = suffixed_sound o x a us s.between s.value d s.was in
-            respelt (ap (λ vs. a ++ vs) (se ∙ ap (λ j. l.mark j ∷ us) (suffix_is k o e)) ∙ r.split)
+            respelt (ap (λ vs. a ++ vs) (se ∙ ap (λ j. l.terminal j ∷ us) (suffix_is k o e)) ∙ r.split)
             (postfix_from_sound n s.value r.front s.between after y r.is r.low s.goes)
         | left f eq ↦ ended (λ z vs. Spelt IsPostfix (room + 1) (a ++ ts) z vs) eq (record { front = a; split = refl; is = d; low = low })
       ]
@@ -290,8 +290,8 @@ module _ (inner : ℕ → Parser Found) (room : ℕ) (sound : Sound inner room) 
             let d = part_sound 12 us s.between s.value s.was in
             let h = raised room s.value.1 s.between _ x after s.goes in
             ended (λ y vs. Spelt IsUnary (room + 1) ts y vs) h.goes (record {
-              front = l.mark k ∷ d.front;
-              split = se ∙ ap (λ vs. l.mark k ∷ vs) d.split;
+              front = l.terminal k ∷ d.front;
+              split = se ∙ ap (λ vs. l.terminal k ∷ vs) d.split;
               is = g.prefix k op e (only_unary (omega arith) d.is);
               low = let low = h.low in omega arith;
             })
@@ -312,7 +312,7 @@ module _ (inner : ℕ → Parser Found) (room : ℕ) (sound : Sound inner room) 
       ]
 
   climb_sound : (n k : ℕ) (x : Found) (a ts after : List Lexeme) (y : Found) → 2 ≤ k → x.1 ≤ room + 1 → IsExpr k x.0 a x.1
-      → ((op : BinaryOp) → of_mark binary_of (first ts) ≡ Some op → IsExpr (level op) x.0 a x.1)
+      → ((op : BinaryOp) → of_terminal binary_of (first ts) ≡ Some op → IsExpr (level op) x.0 a x.1)
       → climb inner room n k x ts ≡ Some (y, after) → Spelt (IsExpr k) (room + 1) (a ++ ts) y after × Ends k after
   unfolding climb
   climb_sound zero k x a ts after y two low d next eq = cc
@@ -324,14 +324,14 @@ module _ (inner : ℕ → Parser Found) (room : ℕ) (sound : Sound inner room) 
             let r = sound (level op + 1) us s.between s.value s.was in
             let b = r.spelt in
             let h = raised room (max x.1 s.value.1) s.between _ y after s.goes in
-            let left = next op (ap (λ vs. of_mark binary_of (first vs)) se ∙ i.0) in
+            let left = next op (ap (λ vs. of_terminal binary_of (first vs)) se ∙ i.0) in
             let least = i.1 in
-            let all : (a ++ l.mark j ∷ b.front) ++ s.between ≡ a ++ l.mark j ∷ (b.front ++ s.between) = append_assoc a (l.mark j ∷ b.front) s.between in
-            let go = climb_sound n k _ (a ++ l.mark j ∷ b.front) s.between after y two (let low = h.low in omega arith)
+            let all : (a ++ l.terminal j ∷ b.front) ++ s.between ≡ a ++ l.terminal j ∷ (b.front ++ s.between) = append_assoc a (l.terminal j ∷ b.front) s.between in
+            let go = climb_sound n k _ (a ++ l.terminal j ∷ b.front) s.between after y two (let low = h.low in omega arith)
             (g.binary j op i.0 least left b.is)
             (λ op' e. g.binary j op i.0 (let lt = r.ends op' e in omega arith) left b.is)
             h.goes in
-            (respelt (ap (λ vs. a ++ vs) (se ∙ ap (λ vs. l.mark j ∷ vs) b.split) ∙ sym all) go.0, go.1)
+            (respelt (ap (λ vs. a ++ vs) (se ∙ ap (λ vs. l.terminal j ∷ vs) b.split) ∙ sym all) go.0, go.1)
         | left f eq ↦
             ended (λ z vs. Spelt (IsExpr k) (room + 1) (a ++ ts) z vs × Ends k vs) eq
             (record { front = a; split = refl; is = d; low = low }, no_operator k ts f)
@@ -397,11 +397,11 @@ module _ (inner : ℕ → Parser Found) (room : ℕ) (sound : Sound inner room) 
             let h = raised room (max u.value.1 s.value.1) s.between _ y after s.goes in
             let zero : k ≡ 0 = i.1 in
             let two : 2 ≡ max k 2 = omega arith in
-            let all : (d.front ++ l.mark j ∷ b.front) ++ s.between ≡ d.front ++ l.mark j ∷ (b.front ++ s.between) = append_assoc d.front (l.mark j ∷ b.front) s.between in
+            let all : (d.front ++ l.terminal j ∷ b.front) ++ s.between ≡ d.front ++ l.terminal j ∷ (b.front ++ s.between) = append_assoc d.front (l.terminal j ∷ b.front) s.between in
             ended (λ z vs. SpeltAt k (room + 1) ts z vs) h.goes (record {
               spelt = record {
-                front = d.front ++ l.mark j ∷ b.front;
-                split = d.split ∙ ap (λ vs. d.front ++ vs) (se ∙ ap (λ vs. l.mark j ∷ vs) b.split) ∙ sym all;
+                front = d.front ++ l.terminal j ∷ b.front;
+                split = d.split ∙ ap (λ vs. d.front ++ vs) (se ∙ ap (λ vs. l.terminal j ∷ vs) b.split) ∙ sym all;
                 is = g.assign j op i.0 zero d.is b.is;
                 low = let low = h.low in omega arith;
               };

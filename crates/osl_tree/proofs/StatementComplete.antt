@@ -1,9 +1,9 @@
 -- What is spelled as a declaration or a statement is read.
 use Rattle.std.proofs.Common.{◌≡◌, ℕ, zero, suc, ◌+◌, ◌≤◌, ◌<◌, max, Bool, true, false, List, [], ◌∷◌, ◌++◌, length, Option, Some, None, refl, sym, ap, ◌∙◌, arith, append_assoc, append-nil, length-append}
 use Rattle.osl_tree.specs.declared.token.Punct.TheVariants as p
-use Rattle.osl_tree.specs.declared.mark.Keyword.TheVariants as w
-use Rattle.osl_tree.specs.declared.mark.Mark.{Mark}
-use Rattle.osl_tree.specs.declared.mark.Mark.TheVariants as m
+use Rattle.osl_tree.specs.declared.terminal.Keyword.TheVariants as w
+use Rattle.osl_tree.specs.declared.terminal.Terminal.{Terminal}
+use Rattle.osl_tree.specs.declared.terminal.Terminal.TheVariants as m
 use Rattle.osl_tree.specs.Lexeme.{Lexeme}
 use Rattle.osl_tree.specs.Lexeme as l
 use Rattle.osl_tree.specs.declared.expr.BaseType.{BaseType}
@@ -18,15 +18,15 @@ use Rattle.osl_tree.specs.declared.stmt.ForStart.{ForStart}
 use Rattle.osl_tree.specs.declared.stmt.Stmt.{Stmt}
 use Rattle.osl_tree.specs.declared.stmt.Stmt.TheVariants as s
 use Rattle.osl_tree.specs.declared.stmt.Start.TheVariants as starts
-use Rattle.osl_tree.specs.Marks.{sign, key, base_of, prefix_of}
+use Rattle.osl_tree.specs.Terminals.{sign, key, base_of, prefix_of}
 use Rattle.osl_tree.specs.Grammar as e
 use Rattle.osl_tree.specs.Grammar.{IsBase, IsType, IsExpr, AreExprs}
 use Rattle.osl_tree.specs.Statements as g
 use Rattle.osl_tree.specs.Statements.{AreListed, IsItem, IsInit, IsVar, IsDeclaration, IsMaybe, IsForStart, IsStmt, IsBlock, AreStmts}
-use Rattle.osl_tree.specs.Parser.{same_mark, Read, Parser, first, rest, of_mark, is_name, sees, declares, listed}
+use Rattle.osl_tree.specs.Parser.{same_terminal, Read, Parser, first, rest, of_terminal, is_name, sees, declares, listed}
 use Rattle.osl_tree.specs.Reading.{expr}
 use Rattle.osl_tree.specs.StatementReading.{Part, item, init, var, declaration, maybe, condition, for_start, start_of, stmts_from, block, ended, returned, choice, while_loop, do_loop, for_loop, plain, other, formed, form, stmt}
-use Rattle.osl_tree.proofs.Steps.{expect_mark, node_in, name_is, int_is, bound, eats, skips, leaves, sees_mark}
+use Rattle.osl_tree.proofs.Steps.{expect_terminal, node_in, name_is, int_is, bound, eats, skips, leaves, sees_terminal}
 use Rattle.osl_tree.proofs.Begins.{Begins, at_name, at_int, at_float, at_text, at_open, at_cast, at_type, at_closure, at_prefix, and_more, begins_expr, some_token, high_expr, base_other, NoBeginning, unlike, type_complete, undeclared, declared_by}
 use Rattle.osl_tree.proofs.Lists.{CompleteFor, listed_complete}
 use Rattle.osl_tree.proofs.Complete.{binds, follows, unseen, Stops, from_exprs, expr_complete}
@@ -40,7 +40,7 @@ item_complete h x _ after (g.alone bytes) low quiet = bound _ (name_is bytes aft
 item_complete h x _ after (g.array bytes n) low quiet =
     bound _ (name_is bytes (sign p.OpenBracket ∷ l.int n ∷ sign p.CloseBracket ∷ after))
     (eats (m.Punct p.OpenBracket) (l.int n ∷ sign p.CloseBracket ∷ after) _ _
-    (bound _ (int_is n (sign p.CloseBracket ∷ after)) (bound _ (expect_mark (m.Punct p.CloseBracket) after) refl)))
+    (bound _ (int_is n (sign p.CloseBracket ∷ after)) (bound _ (expect_terminal (m.Punct p.CloseBracket) after) refl)))
 
 item_low : {x : Item} {a : List Lexeme} {h : ℕ} → IsItem x a h → h ≤ 3
 item_low (g.alone bytes) = omega arith
@@ -59,15 +59,15 @@ item_some (g.alone bytes) = omega arith
 item_some (g.array bytes n) = omega arith
 
 pub no_comma_at_brace : (us : List Lexeme) → sees (m.Punct p.Comma) (sign p.CloseBrace ∷ us) ≡ false
-unfolding sees same_mark
+unfolding sees same_terminal
 no_comma_at_brace us = refl
 
 pub no_comma_at_semicolon : (us : List Lexeme) → sees (m.Punct p.Comma) (sign p.Semicolon ∷ us) ≡ false
-unfolding sees same_mark
+unfolding sees same_terminal
 no_comma_at_semicolon us = refl
 
 no_brace : NoBeginning (m.Punct p.OpenBrace)
-unfolding same_mark
+unfolding same_terminal
 no_brace = record { no_base = refl; no_prefix = refl; no_paren = refl; no_closure = refl }
 
 reads_expr : (room : ℕ) → CompleteFor (IsExpr 0) room Stops (expr room 0)
@@ -87,7 +87,7 @@ init_complete room _ x _ after (g.list {h} {xs} {a} d) low quiet =
     ap (init room) (append_assoc (sign p.OpenBrace ∷ a) (sign p.CloseBrace ∷ []) after)
     ∙ eats (m.Punct p.OpenBrace) (a ++ us) _ _
     (bound _ (exprs_complete room h xs a us d (omega arith) (omega arith, no_comma_at_brace after))
-    (bound _ (expect_mark (m.Punct p.CloseBrace) after) (bound _ (node_in room h after (omega arith)) refl)))
+    (bound _ (expect_terminal (m.Punct p.CloseBrace) after) (bound _ (node_in room h after (omega arith)) refl)))
 
 pub var_complete : (room : ℕ) → CompleteFor IsVar (room + 1) Stops (var room)
 unfolding var
@@ -120,14 +120,14 @@ declaration_complete room _ _ _ after (g.declare {h} {i} {to} {xs} {a} {b} d d')
     ap (declaration room) (declaration_tokens a b after)
     ∙ bound _ (type_complete (b ++ us) d)
     (bound _ (listed_complete IsVar (room + 1) (var room) Stops (var_complete room) (λ x a h d. high_var d) (λ x a h d. var_some d) (λ ts. omega arith) i xs b us d' (omega arith) (omega arith, no_comma_at_semicolon after))
-    (bound _ (expect_mark (m.Punct p.Semicolon) after) (bound _ (node_in room (max h i) after (omega arith)) refl)))
+    (bound _ (expect_terminal (m.Punct p.Semicolon) after) (bound _ (node_in room (max h i) after (omega arith)) refl)))
 
 declares_declaration : {d : Declaration} {a : List Lexeme} {h : ℕ} (after : List Lexeme) → IsDeclaration d a h → declares (a ++ after) ≡ true
 declares_declaration after (g.declare {a} {b} d d') = ap declares (declaration_tokens a b after) ∙ declared_by (b ++ sign p.Semicolon ∷ after) d (vars_are_names (sign p.Semicolon ∷ after) d')
 
 -- ---- how statements begin
 
-base_no_start : (k : Mark) (to : BaseType) → base_of k ≡ Some to → start_of k ≡ None
+base_no_start : (k : Terminal) (to : BaseType) → base_of k ≡ Some to → start_of k ≡ None
 base_no_start (m.Punct k) to q = cc
 base_no_start (m.Keyword w.Break) to q = cc
 base_no_start (m.Keyword w.Continue) to q = cc
@@ -138,14 +138,14 @@ base_no_start (m.Keyword w.Do) to q = cc
 base_no_start (m.Keyword w.For) to q = cc
 base_no_start (m.Keyword _) to q = refl
 
-prefix_no_start : (k : Mark) (op : PrefixOp) → prefix_of k ≡ Some op → start_of k ≡ None
+prefix_no_start : (k : Terminal) (op : PrefixOp) → prefix_of k ≡ Some op → start_of k ≡ None
 prefix_no_start (m.Punct p.Semicolon) op q = cc
 prefix_no_start (m.Punct p.OpenBrace) op q = cc
 prefix_no_start (m.Punct _) op q = refl
 prefix_no_start (m.Keyword w.Not) op q = refl
 prefix_no_start (m.Keyword _) op q = cc
 
-no_start : {ts : List Lexeme} → Begins true ts → of_mark start_of (first ts) ≡ None
+no_start : {ts : List Lexeme} → Begins true ts → of_terminal start_of (first ts) ≡ None
 no_start (at_name bytes) = refl
 no_start (at_int n) = refl
 no_start (at_float n) = refl
@@ -156,12 +156,12 @@ no_start (at_type k to q) = base_no_start k to q
 no_start at_closure = refl
 no_start (at_prefix k op q) = prefix_no_start k op q
 
-type_no_start : {to : TypeName} {a : List Lexeme} {h : ℕ} (c : List Lexeme) → IsType to a h → of_mark start_of (first (a ++ c)) ≡ None
+type_no_start : {to : TypeName} {a : List Lexeme} {h : ℕ} (c : List Lexeme) → IsType to a h → of_terminal start_of (first (a ++ c)) ≡ None
 type_no_start c (e.base _ (e.of_one_word k to q)) = base_no_start k to q
 type_no_start c (e.base _ e.closure) = refl
 type_no_start c (e.struct bytes) = refl
 
-pub type_unlike : {to : TypeName} {a : List Lexeme} {h : ℕ} (j : Mark) (c : List Lexeme) → NoBeginning j → IsType to a h → sees j (a ++ c) ≡ false
+pub type_unlike : {to : TypeName} {a : List Lexeme} {h : ℕ} (j : Terminal) (c : List Lexeme) → NoBeginning j → IsType to a h → sees j (a ++ c) ≡ false
 unfolding sees
 type_unlike j c n (e.base _ (e.of_one_word k to q)) = base_other k j to q n.no_base
 type_unlike j c n (e.base _ e.closure) = n.no_closure
@@ -172,24 +172,24 @@ type_some (e.base _ (e.of_one_word k to q)) = omega arith
 type_some (e.base _ e.closure) = omega arith
 type_some (e.struct bytes) = omega arith
 
-declaration_unlike : {d : Declaration} {a : List Lexeme} {h : ℕ} (j : Mark) (c : List Lexeme) → NoBeginning j → IsDeclaration d a h → sees j (a ++ c) ≡ false
+declaration_unlike : {d : Declaration} {a : List Lexeme} {h : ℕ} (j : Terminal) (c : List Lexeme) → NoBeginning j → IsDeclaration d a h → sees j (a ++ c) ≡ false
 declaration_unlike j c n (g.declare {a} {b} d d') = ap (sees j) (declaration_tokens a b c) ∙ type_unlike j (b ++ sign p.Semicolon ∷ c) n d
 
-no_else_mark : NoBeginning (m.Keyword w.Else)
-unfolding same_mark
-no_else_mark = record { no_base = refl; no_prefix = refl; no_paren = refl; no_closure = refl }
+no_else_terminal : NoBeginning (m.Keyword w.Else)
+unfolding same_terminal
+no_else_terminal = record { no_base = refl; no_prefix = refl; no_paren = refl; no_closure = refl }
 
-no_close_mark : NoBeginning (m.Punct p.CloseBrace)
-unfolding same_mark
-no_close_mark = record { no_base = refl; no_prefix = refl; no_paren = refl; no_closure = refl }
+no_close_terminal : NoBeginning (m.Punct p.CloseBrace)
+unfolding same_terminal
+no_close_terminal = record { no_base = refl; no_prefix = refl; no_paren = refl; no_closure = refl }
 
 -- Neither an `else` nor a closing brace begins a statement.
 no_else : {x : Stmt} {a : List Lexeme} {h : ℕ} {o : Bool} (after : List Lexeme) → IsStmt x a h o → sees (m.Keyword w.Else) (a ++ after) ≡ false
-unfolding sees same_mark
+unfolding sees same_terminal
 no_else after g.empty = refl
 no_else after (g.block (g.braces d)) = refl
-no_else after (g.declare d) = declaration_unlike (m.Keyword w.Else) after no_else_mark d
-no_else after (g.expr d) = unlike (m.Keyword w.Else) no_else_mark (and_more after (and_more _ (begins_expr d)))
+no_else after (g.declare d) = declaration_unlike (m.Keyword w.Else) after no_else_terminal d
+no_else after (g.expr d) = unlike (m.Keyword w.Else) no_else_terminal (and_more after (and_more _ (begins_expr d)))
 no_else after g.break = refl
 no_else after g.continue = refl
 no_else after (g.return d) = refl
@@ -200,11 +200,11 @@ no_else after (g.do_while d d') = refl
 no_else after (g.for d d' d'' d3) = refl
 
 no_close : {x : Stmt} {a : List Lexeme} {h : ℕ} {o : Bool} (after : List Lexeme) → IsStmt x a h o → sees (m.Punct p.CloseBrace) (a ++ after) ≡ false
-unfolding sees same_mark
+unfolding sees same_terminal
 no_close after g.empty = refl
 no_close after (g.block (g.braces d)) = refl
-no_close after (g.declare d) = declaration_unlike (m.Punct p.CloseBrace) after no_close_mark d
-no_close after (g.expr d) = unlike (m.Punct p.CloseBrace) no_close_mark (and_more after (and_more _ (begins_expr d)))
+no_close after (g.declare d) = declaration_unlike (m.Punct p.CloseBrace) after no_close_terminal d
+no_close after (g.expr d) = unlike (m.Punct p.CloseBrace) no_close_terminal (and_more after (and_more _ (begins_expr d)))
 no_close after g.break = refl
 no_close after g.continue = refl
 no_close after (g.return d) = refl
@@ -215,11 +215,11 @@ no_close after (g.do_while d d') = refl
 no_close after (g.for d d' d'' d3) = refl
 
 no_else_at_brace : (us : List Lexeme) → sees (m.Keyword w.Else) (sign p.CloseBrace ∷ us) ≡ false
-unfolding sees same_mark
+unfolding sees same_terminal
 no_else_at_brace us = refl
 
 no_else_at_while : (us : List Lexeme) → sees (m.Keyword w.Else) (key w.While ∷ us) ≡ false
-unfolding sees same_mark
+unfolding sees same_terminal
 no_else_at_while us = refl
 
 no_else_after : {xs : List Stmt} {a : List Lexeme} {h : ℕ} (after : List Lexeme) → AreStmts xs a h → sees (m.Keyword w.Else) (a ++ sign p.CloseBrace ∷ after) ≡ false
@@ -267,27 +267,27 @@ stmts_high (g.more d d') = let k = stmts_high d' in omega arith
 
 -- ---- parts of statements
 
-maybe_complete : (room h : ℕ) (close : Mark) (x : Option Expr) (a us : List Lexeme) → NoBeginning close → binds close ≤ 0 → IsMaybe x a h → h ≤ room
-    → maybe room close (a ++ l.mark close ∷ us) ≡ Some ((x, h), l.mark close ∷ us)
+maybe_complete : (room h : ℕ) (close : Terminal) (x : Option Expr) (a us : List Lexeme) → NoBeginning close → binds close ≤ 0 → IsMaybe x a h → h ≤ room
+    → maybe room close (a ++ l.terminal close ∷ us) ≡ Some ((x, h), l.terminal close ∷ us)
 unfolding maybe
-maybe_complete room h close x a us n b g.nothing low = rw (sees_mark close us) refl
+maybe_complete room h close x a us n b g.nothing low = rw (sees_terminal close us) refl
 maybe_complete room h close x a us n b (g.just {x = y} d) low =
-    rw (unlike close n (and_more (l.mark close ∷ us) (begins_expr d))) (bound _ (reads_expr room h y a (l.mark close ∷ us) d low b) refl)
+    rw (unlike close n (and_more (l.terminal close ∷ us) (begins_expr d))) (bound _ (reads_expr room h y a (l.terminal close ∷ us) d low b) refl)
 
 no_semicolon : NoBeginning (m.Punct p.Semicolon)
-unfolding same_mark
+unfolding same_terminal
 no_semicolon = record { no_base = refl; no_prefix = refl; no_paren = refl; no_closure = refl }
 
-pub no_paren_mark : NoBeginning (m.Punct p.CloseParen)
-unfolding same_mark
-no_paren_mark = record { no_base = refl; no_prefix = refl; no_paren = refl; no_closure = refl }
+pub no_paren_terminal : NoBeginning (m.Punct p.CloseParen)
+unfolding same_terminal
+no_paren_terminal = record { no_base = refl; no_prefix = refl; no_paren = refl; no_closure = refl }
 
 condition_complete : (room : ℕ) {x : Expr} {a : List Lexeme} {h : ℕ} (after : List Lexeme) → IsExpr 0 x a h → h ≤ room
     → condition room (sign p.OpenParen ∷ a ++ sign p.CloseParen ∷ after) ≡ Some ((x, h), after)
 unfolding condition
 condition_complete room {x} {a} {h} after d low =
-    bound _ (expect_mark (m.Punct p.OpenParen) (a ++ sign p.CloseParen ∷ after))
-    (bound _ (reads_expr room h x a (sign p.CloseParen ∷ after) d low (omega arith)) (bound _ (expect_mark (m.Punct p.CloseParen) after) refl))
+    bound _ (expect_terminal (m.Punct p.OpenParen) (a ++ sign p.CloseParen ∷ after))
+    (bound _ (reads_expr room h x a (sign p.CloseParen ∷ after) d low (omega arith)) (bound _ (expect_terminal (m.Punct p.CloseParen) after) refl))
 
 for_start_complete : (room h : ℕ) (x : ForStart) (a after : List Lexeme) → IsForStart x a h → h ≤ room → for_start room (a ++ after) ≡ Some ((x, h), after)
 unfolding for_start
@@ -299,7 +299,7 @@ for_start_complete room h x _ after (g.expr {x = y} {a} d) low =
     let us = sign p.Semicolon ∷ after in
     ap (for_start room) (append_assoc a (sign p.Semicolon ∷ []) after)
     ∙ skips (m.Punct p.Semicolon) (a ++ us) _ _ (unlike (m.Punct p.Semicolon) no_semicolon (and_more us (begins_expr d)))
-    (rw (undeclared us refl d) (bound _ (reads_expr room h y a us d low (omega arith)) (bound _ (expect_mark (m.Punct p.Semicolon) after) refl)))
+    (rw (undeclared us refl d) (bound _ (reads_expr room h y a us d low (omega arith)) (bound _ (expect_terminal (m.Punct p.Semicolon) after) refl)))
 
 -- ---- statements
 
@@ -351,7 +351,7 @@ module _ (inner : Parser Part) (room : ℕ) (comp : CompleteStmt inner room) whe
   declared_complete {d} {a} {h} after (g.declare {a = a'} {b} d1 d2) low =
       let ts = sign p.Semicolon ∷ after in
       leaves _ (a ++ after) (rest (a ++ after)) (formed inner room)
-      (ap (λ us. of_mark start_of (first us)) (declaration_tokens a' b after) ∙ type_no_start (b ++ ts) d1)
+      (ap (λ us. of_terminal start_of (first us)) (declaration_tokens a' b after) ∙ type_no_start (b ++ ts) d1)
       (rw (declares_declaration after (g.declare d1 d2)) (bound _ (declaration_complete room h d a after (g.declare d1 d2) low) refl))
 
   form_complete : (h : ℕ) (o : Bool) (x : Stmt) (a after : List Lexeme) → IsStmt x a h o → h ≤ room + 1 → (o ≡ true → sees (m.Keyword w.Else) after ≡ false)
@@ -365,13 +365,13 @@ module _ (inner : Parser Part) (room : ℕ) (comp : CompleteStmt inner room) whe
       let us = sign p.Semicolon ∷ after in
       ap (form inner room) (append_assoc a (sign p.Semicolon ∷ []) after)
       ∙ expression_complete _ (and_more us (begins_expr d)) (undeclared us refl d)
-      (bound _ (reads_expr room h x a us d (omega arith) (omega arith)) (bound _ (expect_mark (m.Punct p.Semicolon) after) (bound _ (node_in room h after (omega arith)) refl)))
-  form_complete _ _ _ _ after g.break low quiet = bound _ (expect_mark (m.Punct p.Semicolon) after) (bound _ (node_in room 1 after (omega arith)) refl)
-  form_complete _ _ _ _ after g.continue low quiet = bound _ (expect_mark (m.Punct p.Semicolon) after) (bound _ (node_in room 1 after (omega arith)) refl)
+      (bound _ (reads_expr room h x a us d (omega arith) (omega arith)) (bound _ (expect_terminal (m.Punct p.Semicolon) after) (bound _ (node_in room h after (omega arith)) refl)))
+  form_complete _ _ _ _ after g.break low quiet = bound _ (expect_terminal (m.Punct p.Semicolon) after) (bound _ (node_in room 1 after (omega arith)) refl)
+  form_complete _ _ _ _ after g.continue low quiet = bound _ (expect_terminal (m.Punct p.Semicolon) after) (bound _ (node_in room 1 after (omega arith)) refl)
   form_complete _ _ _ _ after (g.return {h} {x} {a} d) low quiet =
       ap (returned inner room) (append_assoc a (sign p.Semicolon ∷ []) after)
       ∙ bound _ (maybe_complete room h (m.Punct p.Semicolon) x a after no_semicolon (omega arith) d (omega arith))
-      (bound _ (expect_mark (m.Punct p.Semicolon) after) (bound _ (node_in room h after (omega arith)) refl))
+      (bound _ (expect_terminal (m.Punct p.Semicolon) after) (bound _ (node_in room h after (omega arith)) refl))
   form_complete _ _ _ _ after (g.only_if {h} {i} {o} {x} {y} {a} {b} d d') low quiet =
       ap (choice inner room) (if_tokens a b after)
       ∙ bound _ (condition_complete room (b ++ after) d (omega arith))
@@ -390,20 +390,20 @@ module _ (inner : Parser Part) (room : ℕ) (comp : CompleteStmt inner room) whe
       let us = sign p.OpenParen ∷ (b ++ sign p.CloseParen ∷ sign p.Semicolon ∷ after) in
       ap (do_loop inner room) (do_tokens a b after)
       ∙ bound _ (comp h o y a (key w.While ∷ us) d (omega arith) (λ _. no_else_at_while us))
-      (bound _ (expect_mark (m.Keyword w.While) us)
+      (bound _ (expect_terminal (m.Keyword w.While) us)
       (bound _ (condition_complete room (sign p.Semicolon ∷ after) d' (omega arith))
-      (bound _ (expect_mark (m.Punct p.Semicolon) after) (bound _ (node_in room (max h i) after (omega arith)) refl))))
+      (bound _ (expect_terminal (m.Punct p.Semicolon) after) (bound _ (node_in room (max h i) after (omega arith)) refl))))
   form_complete _ _ _ _ after (g.for {h} {i} {j} {k} {o} {x} {y} {z} {body} {a} {b} {c} {d} d0 d1 d2 d3) low quiet =
       let v = d ++ after in
       let u = c ++ sign p.CloseParen ∷ v in
       let t = b ++ sign p.Semicolon ∷ u in
       ap (form inner room) (for_tokens a b c d after)
-      ∙ bound _ (expect_mark (m.Punct p.OpenParen) (a ++ t))
+      ∙ bound _ (expect_terminal (m.Punct p.OpenParen) (a ++ t))
       (bound _ (for_start_complete room h x a t d0 (omega arith))
       (bound _ (maybe_complete room i (m.Punct p.Semicolon) y b u no_semicolon (omega arith) d1 (omega arith))
-      (bound _ (expect_mark (m.Punct p.Semicolon) u)
-      (bound _ (maybe_complete room j (m.Punct p.CloseParen) z c v no_paren_mark (omega arith) d2 (omega arith))
-      (bound _ (expect_mark (m.Punct p.CloseParen) v)
+      (bound _ (expect_terminal (m.Punct p.Semicolon) u)
+      (bound _ (maybe_complete room j (m.Punct p.CloseParen) z c v no_paren_terminal (omega arith) d2 (omega arith))
+      (bound _ (expect_terminal (m.Punct p.CloseParen) v)
       (bound _ (comp k o body d after d3 (omega arith) quiet) (bound _ (node_in room (max (max h i) (max j k)) after (omega arith)) refl)))))))
 
 -- What is spelled is read by `stmt`.

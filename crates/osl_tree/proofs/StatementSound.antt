@@ -1,9 +1,9 @@
 -- What is read as a declaration or a statement is spelled.
 use Rattle.std.proofs.Common.{◌≡◌, ℕ, zero, suc, ◌+◌, ◌≤◌, ◌<◌, max, Bool, true, false, List, [], ◌∷◌, ◌++◌, length, Some, refl, sym, ap, ◌∙◌, arith, append_assoc, append-nil, subst, inl, inr}
 use Rattle.osl_tree.specs.declared.token.Punct.TheVariants as p
-use Rattle.osl_tree.specs.declared.mark.Keyword.TheVariants as w
-use Rattle.osl_tree.specs.declared.mark.Mark.{Mark}
-use Rattle.osl_tree.specs.declared.mark.Mark.TheVariants as m
+use Rattle.osl_tree.specs.declared.terminal.Keyword.TheVariants as w
+use Rattle.osl_tree.specs.declared.terminal.Terminal.{Terminal}
+use Rattle.osl_tree.specs.declared.terminal.Terminal.TheVariants as m
 use Rattle.osl_tree.specs.Lexeme.{Lexeme}
 use Rattle.osl_tree.specs.Lexeme as l
 use Rattle.osl_tree.specs.declared.stmt.TypeName.{TypeName}
@@ -14,7 +14,7 @@ use Rattle.osl_tree.specs.declared.stmt.Stmt.{Stmt}
 use Rattle.osl_tree.specs.declared.stmt.Stmt.TheVariants as s
 use Rattle.osl_tree.specs.declared.stmt.Start.{Start}
 use Rattle.osl_tree.specs.declared.stmt.Start.TheVariants as starts
-use Rattle.osl_tree.specs.Marks.{sign, key}
+use Rattle.osl_tree.specs.Terminals.{sign, key}
 use Rattle.osl_tree.specs.Grammar as e
 use Rattle.osl_tree.specs.Grammar.{IsType, IsExpr, AreExprs}
 use Rattle.osl_tree.specs.Statements as g
@@ -23,7 +23,7 @@ use Rattle.osl_tree.specs.Parser.{Parser, sees, expect, name, int, named_type, t
 use Rattle.osl_tree.specs.Reading.{Found, expr}
 use Rattle.osl_tree.specs.StatementReading.{Part, item, init, var, declaration, maybe, condition, for_start, start_of, stmts_from, block, ended, returned, choice, while_loop, do_loop, for_loop, plain, other, formed, form, stmt}
 use Rattle.osl_tree.proofs.Steps as steps_of
-use Rattle.osl_tree.proofs.Steps.{steps, expected, raised, named, numbered, did, didn't, ate, took, left, taking, bases', baseless, basing, sees_mark, decided}
+use Rattle.osl_tree.proofs.Steps.{steps, expected, raised, named, numbered, did, didn't, ate, took, left, taking, bases', baseless, basing, sees_terminal, decided}
 use Rattle.osl_tree.proofs.Begins.{high_base, high_expr}
 use Rattle.osl_tree.proofs.Lists.{Spelt, SoundFor, listed_sound}
 use Rattle.osl_tree.proofs.Sound.{expr_sound, to_exprs}
@@ -147,7 +147,7 @@ declaration_sound room ts after x eq =
 
 -- ---- parts of statements
 
-pub maybe_sound : (room : ℕ) (close : Mark) → SoundFor IsMaybe (max 1 room) (maybe room close)
+pub maybe_sound : (room : ℕ) (close : Terminal) → SoundFor IsMaybe (max 1 room) (maybe room close)
 unfolding maybe
 maybe_sound room close ts after x eq =
     elim (decided (sees close ts) _ _ ts _ eq) [
@@ -225,7 +225,7 @@ complete_stmt top ts x after front split is low = record { front = front; open_i
 restart : {top : ℕ} {ts us : List Lexeme} {x : Part} {after : List Lexeme} → us ≡ ts → SpeltStmt top ts x after → SpeltStmt top us x after
 restart q r = record { front = r.front; open_if = r.open_if; split = q ∙ r.split; is = r.is; low = r.low; no_else = r.no_else }
 
-abbrev opening : Start → Mark
+abbrev opening : Start → Terminal
 opening starts.Empty = m.Punct p.Semicolon
 opening starts.Block = m.Punct p.OpenBrace
 opening starts.Break = m.Keyword w.Break
@@ -236,7 +236,7 @@ opening starts.While = m.Keyword w.While
 opening starts.Do = m.Keyword w.Do
 opening starts.For = m.Keyword w.For
 
-start_is : (k : Mark) (o : Start) → start_of k ≡ Some o → k ≡ opening o
+start_is : (k : Terminal) (o : Start) → start_of k ≡ Some o → k ≡ opening o
 start_is (m.Punct p.Semicolon) o q = let r : starts.Empty ≡ o = grind arith in ap opening r
 start_is (m.Punct p.OpenBrace) o q = let r : starts.Block ≡ o = grind arith in ap opening r
 start_is (m.Keyword w.Break) o q = let r : starts.Break ≡ o = grind arith in ap opening r
@@ -266,7 +266,7 @@ for_tokens a b c d after = simp append_assoc
 -- what an `else` follows has no open `if`
 closed_if : (o : Bool) (ts us : List Lexeme) → (o ≡ true → sees (m.Keyword w.Else) ts ≡ false) → ts ≡ key w.Else ∷ us → o ≡ false
 closed_if false ts us n split = refl
-closed_if true ts us n split = let seen = sees_mark (m.Keyword w.Else) us in let none = n refl in let same = ap (sees (m.Keyword w.Else)) split in cc
+closed_if true ts us n split = let seen = sees_terminal (m.Keyword w.Else) us in let none = n refl in let same = ap (sees (m.Keyword w.Else)) split in cc
 
 module _ (inner : Parser Part) (room : ℕ) (sound : SoundStmt inner room) where
   stmts_sound : (n : ℕ) (xs : List Stmt) (h : ℕ) (ts after : List Lexeme) (ys : List Stmt × ℕ) → 0 < h → stmts_from inner room n xs h ts ≡ Some (ys, after) → Listed room xs h ts ys after
@@ -312,15 +312,15 @@ module _ (inner : Parser Part) (room : ℕ) (sound : SoundStmt inner room) where
         low = let low = n.low in omega arith;
       })
 
-  ended_sound : (k : Mark) (x : Stmt) → IsStmt x (l.mark k ∷ sign p.Semicolon ∷ []) 2 false → (ts after : List Lexeme) (y : Part) → ended inner room x ts ≡ Some (y, after)
-      → SpeltStmt (room + 1) (l.mark k ∷ ts) y after
+  ended_sound : (k : Terminal) (x : Stmt) → IsStmt x (l.terminal k ∷ sign p.Semicolon ∷ []) 2 false → (ts after : List Lexeme) (y : Part) → ended inner room x ts ≡ Some (y, after)
+      → SpeltStmt (room + 1) (l.terminal k ∷ ts) y after
   unfolding ended
   ended_sound k x is ts after y eq =
       let c = steps (expect (m.Punct p.Semicolon) ts) _ y after eq in
       let f = expected (m.Punct p.Semicolon) ts c.between c.value c.was in
       let n = raised room 1 c.between _ y after c.goes in
-      steps_of.ended (λ z vs. SpeltStmt (room + 1) (l.mark k ∷ ts) z vs) n.goes
-      (complete_stmt (room + 1) (l.mark k ∷ ts) (x, 2) c.between (l.mark k ∷ sign p.Semicolon ∷ []) (ap (λ vs. l.mark k ∷ vs) f) is (let low = n.low in omega arith))
+      steps_of.ended (λ z vs. SpeltStmt (room + 1) (l.terminal k ∷ ts) z vs) n.goes
+      (complete_stmt (room + 1) (l.terminal k ∷ ts) (x, 2) c.between (l.terminal k ∷ sign p.Semicolon ∷ []) (ap (λ vs. l.terminal k ∷ vs) f) is (let low = n.low in omega arith))
 
   returned_sound : (ts after : List Lexeme) (x : Part) → returned inner room ts ≡ Some (x, after) → SpeltStmt (room + 1) (key w.Return ∷ ts) x after
   unfolding returned
@@ -467,7 +467,7 @@ module _ (inner : Parser Part) (room : ℕ) (sound : SoundStmt inner room) where
       steps_of.ended (λ y vs. SpeltStmt (room + 1) (sign p.OpenBrace ∷ ts) y vs) i.goes
       (complete_stmt (room + 1) (sign p.OpenBrace ∷ ts) (s.Block i.value.0, i.value.1) i.between d.front d.split (g.block d.is) d.low)
 
-  formed_sound : (o : Start) (ts after : List Lexeme) (x : Part) → formed inner room (Some o) ts ≡ Some (x, after) → SpeltStmt (room + 1) (l.mark (opening o) ∷ ts) x after
+  formed_sound : (o : Start) (ts after : List Lexeme) (x : Part) → formed inner room (Some o) ts ≡ Some (x, after) → SpeltStmt (room + 1) (l.terminal (opening o) ∷ ts) x after
   formed_sound starts.Empty ts after x eq = steps_of.ended (λ y vs. SpeltStmt (room + 1) (sign p.Semicolon ∷ ts) y vs) eq
       (complete_stmt (room + 1) (sign p.Semicolon ∷ ts) (s.Empty, 1) ts (sign p.Semicolon ∷ []) refl g.empty (omega arith))
   formed_sound starts.Block ts after x eq = block_stmt_sound ts after x eq
@@ -483,7 +483,7 @@ module _ (inner : Parser Part) (room : ℕ) (sound : SoundStmt inner room) where
   unfolding form
   form_sound ts after x eq =
       elim (taking start_of ts (formed inner room) x after eq) [
-        | took k o us q se eq ↦ restart (se ∙ ap (λ j. l.mark j ∷ us) (start_is k o q)) (formed_sound o us after x eq)
+        | took k o us q se eq ↦ restart (se ∙ ap (λ j. l.terminal j ∷ us) (start_is k o q)) (formed_sound o us after x eq)
         | left f eq ↦ other_sound ts after x eq
       ]
 

@@ -1,8 +1,8 @@
 -- Reading structures, functions, shaders and whole sources.
 use Rattle.std.specs.Prelude.{ℕ, zero, suc, max, Bool, if◌then◌else◌, List, [], ◌∷◌, ◌++◌, length, Option, Some, None}
 use Rattle.osl_tree.specs.declared.token.Punct.TheVariants as p
-use Rattle.osl_tree.specs.declared.mark.Keyword.TheVariants as w
-use Rattle.osl_tree.specs.declared.mark.Mark.TheVariants as m
+use Rattle.osl_tree.specs.declared.terminal.Keyword.TheVariants as w
+use Rattle.osl_tree.specs.declared.terminal.Terminal.TheVariants as m
 use Rattle.osl_tree.specs.Lexeme.{Lexeme}
 use Rattle.osl_tree.specs.declared.stmt.TypeName.{TypeName}
 use Rattle.osl_tree.specs.declared.stmt.Stmt.{Stmt}
@@ -14,10 +14,10 @@ use Rattle.osl_tree.specs.declared.tree.Definition.{Definition}
 use Rattle.osl_tree.specs.declared.tree.Definition.TheVariants as definitions
 use Rattle.osl_tree.specs.declared.tree.Datum.{Datum}
 use Rattle.osl_tree.specs.declared.tree.Param.{Param}
-use Rattle.osl_tree.specs.declared.tree.ShaderKind.{ShaderKind}
+use Rattle.osl_value.specs.declared.shader_kind.ShaderKind.{ShaderKind}
 use Rattle.osl_tree.specs.declared.tree.Shader.{Shader}
 use Rattle.osl_tree.specs.declared.tree.Tree.{Tree}
-use Rattle.osl_tree.specs.Marks.{kind_of}
+use Rattle.osl_tree.specs.Terminals.{kind_of}
 use Rattle.osl_tree.specs.Parser.{Read, Parser, ◌>>=◌, ◌>>◌, pure, refuse, peek, eat, expect, name, take_as, type_name, node, listed, trailed}
 use Rattle.osl_tree.specs.StatementReading.{item, init, block, stmt}
 

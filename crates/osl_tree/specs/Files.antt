@@ -2,8 +2,8 @@
 use Rattle.std.specs.Prelude.{◌≡◌, ℕ, ◌+◌, ◌≤◌, max, List, [], ◌∷◌, ◌++◌, Bool, true, false, Option, Some, None}
 use Rattle.osl_tree.specs.declared.token.Punct.TheVariants as p
 use Rattle.osl_tree.specs.declared.token.Token.{Token}
-use Rattle.osl_tree.specs.declared.mark.Keyword.TheVariants as w
-use Rattle.osl_tree.specs.declared.mark.Mark.{Mark}
+use Rattle.osl_tree.specs.declared.terminal.Keyword.TheVariants as w
+use Rattle.osl_tree.specs.declared.terminal.Terminal.{Terminal}
 use Rattle.osl_tree.specs.Lexeme.{Lexeme}
 use Rattle.osl_tree.specs.Lexeme as l
 use Rattle.osl_tree.specs.declared.stmt.TypeName.{TypeName}
@@ -18,10 +18,10 @@ use Rattle.osl_tree.specs.declared.tree.Definition.{Definition}
 use Rattle.osl_tree.specs.declared.tree.Definition.TheVariants as definitions
 use Rattle.osl_tree.specs.declared.tree.Datum.{Datum}
 use Rattle.osl_tree.specs.declared.tree.Param.{Param}
-use Rattle.osl_tree.specs.declared.tree.ShaderKind.{ShaderKind}
+use Rattle.osl_value.specs.declared.shader_kind.ShaderKind.{ShaderKind}
 use Rattle.osl_tree.specs.declared.tree.Shader.{Shader}
 use Rattle.osl_tree.specs.declared.tree.Tree.{Tree}
-use Rattle.osl_tree.specs.Marks.{sign, key, kind_of}
+use Rattle.osl_tree.specs.Terminals.{sign, key, kind_of}
 use Rattle.osl_tree.specs.Lexemes.{lexemes}
 use Rattle.osl_tree.specs.Grammar.{IsType}
 use Rattle.osl_tree.specs.Statements.{AreListed, IsItem, IsInit, IsBlock}
@@ -44,14 +44,14 @@ pub data IsStructure : Structure → List Lexeme → ℕ → Type 0 where
 -- ---- functions
 
 -- a word `output` that may be missing
-abbrev pub output_mark : Bool → List Lexeme
-output_mark true = key w.Output ∷ []
-output_mark false = []
+abbrev pub output_word : Bool → List Lexeme
+output_word true = key w.Output ∷ []
+output_word false = []
 
 pub data IsFormal : Formal → List Lexeme → ℕ → Type 0 where
   formal : {h i : ℕ} {to : TypeName} {x : Item} {a b : List Lexeme} (output : Bool)
       → IsType to a h → IsItem x b i
-      → IsFormal (record { output = output; ty = to; item = x }) (output_mark output ++ a ++ b) (max h i + 1)
+      → IsFormal (record { output = output; ty = to; item = x }) (output_word output ++ a ++ b) (max h i + 1)
 
 pub data AreFormals : List Formal → List Lexeme → ℕ → Type 0 where
   none : AreFormals [] [] 1
@@ -94,18 +94,18 @@ pub data IsParam : Param → List Lexeme → ℕ → Type 0 where
   param : {h i j k : ℕ} {to : TypeName} {x : Item} {y : Init} {zs : List Datum} {a b c d : List Lexeme} (output : Bool)
       → IsType to a h → IsItem x b i → IsInit y c j → IsMetadata zs d k
       → IsParam (record { output = output; ty = to; item = x; init = y; metadata = zs })
-      (output_mark output ++ a ++ b ++ sign p.Assign ∷ c ++ d) (max (max h i) (max j k) + 1)
+      (output_word output ++ a ++ b ++ sign p.Assign ∷ c ++ d) (max (max h i) (max j k) + 1)
 
 pub data AreParams : List Param → List Lexeme → ℕ → Type 0 where
   none : AreParams [] [] 1
   some : {h : ℕ} {xs : List Param} {a : List Lexeme} → AreTrailed IsParam xs a h → AreParams xs a h
 
 pub data IsShader : Shader → List Lexeme → ℕ → Type 0 where
-  shader : {h i j : ℕ} {metas : List Datum} {xs : List Param} {body : List Stmt} {a b c : List Lexeme} (mark : Mark) (kind : ShaderKind) (name : List ℕ)
-      → kind_of mark ≡ Some kind
+  shader : {h i j : ℕ} {metas : List Datum} {xs : List Param} {body : List Stmt} {a b c : List Lexeme} (terminal : Terminal) (kind : ShaderKind) (name : List ℕ)
+      → kind_of terminal ≡ Some kind
       → IsMetadata metas a h → AreParams xs b i → IsBlock body c j
       → IsShader (record { kind = kind; name = name; metadata = metas; params = xs; body = body })
-      (l.mark mark ∷ l.name name ∷ a ++ sign p.OpenParen ∷ b ++ sign p.CloseParen ∷ c) (max h (max i j) + 1)
+      (l.terminal terminal ∷ l.name name ∷ a ++ sign p.OpenParen ∷ b ++ sign p.CloseParen ∷ c) (max h (max i j) + 1)
 
 -- ---- sources
 

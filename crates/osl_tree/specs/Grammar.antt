@@ -1,8 +1,8 @@
 -- The grammar's types and expressions. A tree is set against the tokens that it spells, and has a height: that of a token is 1, and that of a node is one more than its highest part's.
 use Rattle.std.specs.Prelude.{◌≡◌, ℕ, ◌+◌, ◌≤◌, max, List, [], ◌∷◌, ◌++◌, Some, ℤ}
 use Rattle.osl_tree.specs.declared.token.Punct.TheVariants as p
-use Rattle.osl_tree.specs.declared.mark.Keyword.TheVariants as w
-use Rattle.osl_tree.specs.declared.mark.Mark.{Mark}
+use Rattle.osl_tree.specs.declared.terminal.Keyword.TheVariants as w
+use Rattle.osl_tree.specs.declared.terminal.Terminal.{Terminal}
 use Rattle.osl_tree.specs.Lexeme.{Lexeme}
 use Rattle.osl_tree.specs.Lexeme as l
 use Rattle.osl_tree.specs.declared.expr.BaseType.{BaseType}
@@ -15,11 +15,11 @@ use Rattle.osl_tree.specs.declared.expr.Expr.{Expr}
 use Rattle.osl_tree.specs.declared.expr.Expr.TheVariants as e
 use Rattle.osl_tree.specs.declared.stmt.TypeName.{TypeName}
 use Rattle.osl_tree.specs.declared.stmt.TypeName.TheVariants as types
-use Rattle.osl_tree.specs.Marks.{sign, key, base_of, prefix_of, postfix_of, binary_of, level, assign_of}
+use Rattle.osl_tree.specs.Terminals.{sign, key, base_of, prefix_of, postfix_of, binary_of, level, assign_of}
 
 -- a type that reserved words name
 pub data IsBase : BaseType → List Lexeme → ℕ → Type 0 where
-  of_one_word : (mark : Mark) (to : BaseType) → base_of mark ≡ Some to → IsBase to (l.mark mark ∷ []) 1
+  of_one_word : (terminal : Terminal) (to : BaseType) → base_of terminal ≡ Some to → IsBase to (l.terminal terminal ∷ []) 1
   closure : IsBase bases.Closure (key w.Closure ∷ key w.Color ∷ []) 2
 
 -- a type
@@ -31,23 +31,23 @@ mutual
   -- At this level the tree spells the tokens, and it is so high.
   pub data IsExpr : ℕ → Expr → List Lexeme → ℕ → Type 0 where
     unary : {k h : ℕ} {x : Expr} {a : List Lexeme} → IsUnary x a h → IsExpr k x a h
-    binary : {k h i : ℕ} {x y : Expr} {a b : List Lexeme} (mark : Mark) (op : BinaryOp)
-        → binary_of mark ≡ Some op → k ≤ level op
+    binary : {k h i : ℕ} {x y : Expr} {a b : List Lexeme} (terminal : Terminal) (op : BinaryOp)
+        → binary_of terminal ≡ Some op → k ≤ level op
         → IsExpr (level op) x a h → IsExpr (level op + 1) y b i
-        → IsExpr k (e.Binary op x y) (a ++ l.mark mark ∷ b) (max h i + 1)
+        → IsExpr k (e.Binary op x y) (a ++ l.terminal terminal ∷ b) (max h i + 1)
     choice : {k h i j : ℕ} {x y z : Expr} {a b c : List Lexeme}
         → k ≤ 1 → IsExpr 2 x a h → IsExpr 0 y b i → IsExpr 1 z c j
         → IsExpr k (e.Choice x y z) (a ++ sign p.Question ∷ b ++ sign p.Colon ∷ c) (max h (max i j) + 1)
-    assign : {k h i : ℕ} {x y : Expr} {a b : List Lexeme} (mark : Mark) (op : AssignOp)
-        → assign_of mark ≡ Some op → k ≡ 0
+    assign : {k h i : ℕ} {x y : Expr} {a b : List Lexeme} (terminal : Terminal) (op : AssignOp)
+        → assign_of terminal ≡ Some op → k ≡ 0
         → IsUnary x a h → IsExpr 0 y b i
-        → IsExpr k (e.Assign op x y) (a ++ l.mark mark ∷ b) (max h i + 1)
+        → IsExpr k (e.Assign op x y) (a ++ l.terminal terminal ∷ b) (max h i + 1)
 
   pub data IsUnary : Expr → List Lexeme → ℕ → Type 0 where
     postfix : {h : ℕ} {x : Expr} {a : List Lexeme} → IsPostfix x a h → IsUnary x a h
-    prefix : {h : ℕ} {x : Expr} {a : List Lexeme} (mark : Mark) (op : PrefixOp)
-        → prefix_of mark ≡ Some op → IsUnary x a h
-        → IsUnary (e.Prefix op x) (l.mark mark ∷ a) (h + 1)
+    prefix : {h : ℕ} {x : Expr} {a : List Lexeme} (terminal : Terminal) (op : PrefixOp)
+        → prefix_of terminal ≡ Some op → IsUnary x a h
+        → IsUnary (e.Prefix op x) (l.terminal terminal ∷ a) (h + 1)
     cast : {h i : ℕ} {x : Expr} {a b : List Lexeme} (to : BaseType)
         → IsBase to a h → IsUnary x b i
         → IsUnary (e.Cast to x) (sign p.OpenParen ∷ a ++ sign p.CloseParen ∷ b) (max h i + 1)
@@ -60,9 +60,9 @@ mutual
     field : {h : ℕ} {x : Expr} {a : List Lexeme} (name : List ℕ)
         → IsPostfix x a h
         → IsPostfix (e.Field x name) (a ++ sign p.Dot ∷ l.name name ∷ []) (h + 1)
-    step : {h : ℕ} {x : Expr} {a : List Lexeme} (mark : Mark) (op : PostfixOp)
-        → postfix_of mark ≡ Some op → IsPostfix x a h
-        → IsPostfix (e.Postfix op x) (a ++ l.mark mark ∷ []) (h + 1)
+    step : {h : ℕ} {x : Expr} {a : List Lexeme} (terminal : Terminal) (op : PostfixOp)
+        → postfix_of terminal ≡ Some op → IsPostfix x a h
+        → IsPostfix (e.Postfix op x) (a ++ l.terminal terminal ∷ []) (h + 1)
 
   pub data IsPrimary : Expr → List Lexeme → ℕ → Type 0 where
     int : (n : ℤ) → IsPrimary (e.Int n) (l.int n ∷ []) 1

@@ -1,6 +1,6 @@
 -- A token with its text, as the grammar sees it.
 use Rattle.std.specs.Prelude.{ℕ, List, ℤ}
-use Rattle.osl_tree.specs.declared.mark.Mark.{Mark}
+use Rattle.osl_tree.specs.declared.terminal.Terminal.{Terminal}
 
 pub data Lexeme : Type 0 where
   -- a word that is not reserved
@@ -10,5 +10,5 @@ pub data Lexeme : Type 0 where
   float : ℤ → Lexeme
   -- a string: the bytes for which it stands
   text : List ℕ → Lexeme
-  -- a mark or a reserved word
-  mark : Mark → Lexeme
+  -- a punctuation mark or a keyword
+  terminal : Terminal → Lexeme

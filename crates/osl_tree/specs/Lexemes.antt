@@ -3,9 +3,9 @@ use Rattle.std.specs.Prelude.{ℕ, zero, suc, ◌*◌, ◌+◌, ◌-◌, ◌%◌
 use Rattle.osl_tree.specs.declared.token.TokenKind.{TokenKind}
 use Rattle.osl_tree.specs.declared.token.TokenKind.TheVariants as kinds
 use Rattle.osl_tree.specs.declared.token.Token.{Token}
-use Rattle.osl_tree.specs.declared.mark.Keyword.{Keyword}
-use Rattle.osl_tree.specs.declared.mark.Keyword.TheVariants as w
-use Rattle.osl_tree.specs.declared.mark.Mark.TheVariants as m
+use Rattle.osl_tree.specs.declared.terminal.Keyword.{Keyword}
+use Rattle.osl_tree.specs.declared.terminal.Keyword.TheVariants as w
+use Rattle.osl_tree.specs.declared.terminal.Terminal.TheVariants as m
 use Rattle.osl_tree.specs.Lexeme.{Lexeme}
 use Rattle.osl_tree.specs.Lexeme as l
 
@@ -50,7 +50,7 @@ reserved text = find (λ word. bytes_eq (word_of word) text) keywords
 
 abbrev pub named : List ℕ → Option Keyword → Lexeme
 named text None = l.name text
-named text (Some word) = l.mark (m.Keyword word)
+named text (Some word) = l.terminal (m.Keyword word)
 
 -- ---- strings
 
@@ -104,7 +104,7 @@ lexeme_of text kinds.Word = named text (reserved text)
 lexeme_of text (kinds.Int n) = l.int n
 lexeme_of text (kinds.Float units) = l.float units
 lexeme_of text kinds.Str = l.text (unescaped (inside text))
-lexeme_of text (kinds.Punct mark) = l.mark (m.Punct mark)
+lexeme_of text (kinds.Punct mark) = l.terminal (m.Punct mark)
 
 abbrev pub lexeme : List ℕ → Token → Lexeme
 lexeme source t = lexeme_of (slice_range source t.start t.end) t.kind

@@ -1,6 +1,6 @@
 pub mod Numbers
 pub mod Lexical
-pub mod Marks
+pub mod Terminals
 pub mod Lexeme
 pub mod Lexemes
 pub mod Grammar
@@ -10,3 +10,5 @@ pub mod Parser
 pub mod Reading
 pub mod StatementReading
 pub mod FileReading
+pub mod Sources
+pub mod Laws

@@ -2,18 +2,18 @@
 use Rattle.std.specs.Prelude.{ℕ, zero, suc, ◌+◌, max, Bool, true, false, not, ◌&&◌, if◌then◌else◌, nat_le, List, [], ◌∷◌, ◌++◌, length, drop, Option, Some, None, ℤ}
 use denote.Enum.Bare.{sameb}
 use Rattle.osl_tree.specs.contracts.token.Punct as punct
-use Rattle.osl_tree.specs.contracts.mark.Keyword as word
+use Rattle.osl_tree.specs.contracts.terminal.Keyword as word
 use Rattle.osl_tree.specs.declared.token.Punct.TheVariants as p
-use Rattle.osl_tree.specs.declared.mark.Keyword.TheVariants as w
-use Rattle.osl_tree.specs.declared.mark.Mark.{Mark}
-use Rattle.osl_tree.specs.declared.mark.Mark.TheVariants as m
+use Rattle.osl_tree.specs.declared.terminal.Keyword.TheVariants as w
+use Rattle.osl_tree.specs.declared.terminal.Terminal.{Terminal}
+use Rattle.osl_tree.specs.declared.terminal.Terminal.TheVariants as m
 use Rattle.osl_tree.specs.Lexeme.{Lexeme}
 use Rattle.osl_tree.specs.Lexeme as l
 use Rattle.osl_tree.specs.declared.expr.BaseType.{BaseType}
 use Rattle.osl_tree.specs.declared.expr.BaseType.TheVariants as bases
 use Rattle.osl_tree.specs.declared.stmt.TypeName.{TypeName}
 use Rattle.osl_tree.specs.declared.stmt.TypeName.TheVariants as types
-use Rattle.osl_tree.specs.Marks.{base_of}
+use Rattle.osl_tree.specs.Terminals.{base_of}
 
 abbrev pub Read : Type 0 → Type 0
 Read A = Option (A × List Lexeme)
@@ -49,28 +49,28 @@ abbrev pub rest : List Lexeme → List Lexeme
 rest [] = []
 rest (x ∷ xs) = xs
 
-unfoldable pub same_mark : Mark → Mark → Bool
-same_mark (m.Punct j) (m.Punct k) = sameb punct.the_type j k
-same_mark (m.Punct j) (m.Keyword k) = false
-same_mark (m.Keyword j) (m.Punct k) = false
-same_mark (m.Keyword j) (m.Keyword k) = sameb word.the_type j k
+unfoldable pub same_terminal : Terminal → Terminal → Bool
+same_terminal (m.Punct j) (m.Punct k) = sameb punct.the_type j k
+same_terminal (m.Punct j) (m.Keyword k) = false
+same_terminal (m.Keyword j) (m.Punct k) = false
+same_terminal (m.Keyword j) (m.Keyword k) = sameb word.the_type j k
 
--- what f makes of the token, if it is a mark or a reserved word
-abbrev pub of_mark : {A : Type 0} → (Mark → Option A) → Option Lexeme → Option A
-of_mark f None = None
-of_mark f (Some (l.name bytes)) = None
-of_mark f (Some (l.int n)) = None
-of_mark f (Some (l.float units)) = None
-of_mark f (Some (l.text bytes)) = None
-of_mark f (Some (l.mark mark)) = f mark
+-- what f makes of the token, if it is a terminal
+abbrev pub of_terminal : {A : Type 0} → (Terminal → Option A) → Option Lexeme → Option A
+of_terminal f None = None
+of_terminal f (Some (l.name bytes)) = None
+of_terminal f (Some (l.int n)) = None
+of_terminal f (Some (l.float units)) = None
+of_terminal f (Some (l.text bytes)) = None
+of_terminal f (Some (l.terminal terminal)) = f terminal
 
-abbrev pub is_mark : Mark → Option Lexeme → Bool
-is_mark k None = false
-is_mark k (Some (l.name bytes)) = false
-is_mark k (Some (l.int n)) = false
-is_mark k (Some (l.float units)) = false
-is_mark k (Some (l.text bytes)) = false
-is_mark k (Some (l.mark mark)) = same_mark mark k
+abbrev pub is_terminal : Terminal → Option Lexeme → Bool
+is_terminal k None = false
+is_terminal k (Some (l.name bytes)) = false
+is_terminal k (Some (l.int n)) = false
+is_terminal k (Some (l.float units)) = false
+is_terminal k (Some (l.text bytes)) = false
+is_terminal k (Some (l.terminal terminal)) = same_terminal terminal k
 
 abbrev pub name_of : Option Lexeme → Option (List ℕ)
 name_of None = None
@@ -78,7 +78,7 @@ name_of (Some (l.name bytes)) = Some bytes
 name_of (Some (l.int n)) = None
 name_of (Some (l.float units)) = None
 name_of (Some (l.text bytes)) = None
-name_of (Some (l.mark mark)) = None
+name_of (Some (l.terminal terminal)) = None
 
 abbrev pub int_of : Option Lexeme → Option ℤ
 int_of None = None
@@ -86,7 +86,7 @@ int_of (Some (l.name bytes)) = None
 int_of (Some (l.int n)) = Some n
 int_of (Some (l.float units)) = None
 int_of (Some (l.text bytes)) = None
-int_of (Some (l.mark mark)) = None
+int_of (Some (l.terminal terminal)) = None
 
 abbrev pub is_name : Option Lexeme → Bool
 is_name None = false
@@ -94,21 +94,21 @@ is_name (Some (l.name bytes)) = true
 is_name (Some (l.int n)) = false
 is_name (Some (l.float units)) = false
 is_name (Some (l.text bytes)) = false
-is_name (Some (l.mark mark)) = false
+is_name (Some (l.terminal terminal)) = false
 
-unfoldable pub sees : Mark → List Lexeme → Bool
-sees k ts = is_mark k (first ts)
+unfoldable pub sees : Terminal → List Lexeme → Bool
+sees k ts = is_terminal k (first ts)
 
 -- ---- steps
 
-abbrev pub peek : Mark → Parser Bool
+abbrev pub peek : Terminal → Parser Bool
 peek k = λ ts. Some (sees k ts, ts)
 
--- takes this mark, if it comes next
-abbrev pub eat : Mark → Parser Bool
+-- takes this terminal, if it comes next
+abbrev pub eat : Terminal → Parser Bool
 eat k = λ ts. Some (sees k ts, if sees k ts then rest ts else ts)
 
-unfoldable pub expect : Mark → Parser (Unit {0})
+unfoldable pub expect : Terminal → Parser (Unit {0})
 expect k = λ ts. if sees k ts then Some (tt, rest ts) else None
 
 -- goes on behind it, if there is a value
@@ -132,9 +132,9 @@ abbrev pub past : {A : Type 0} → Option A → List Lexeme → List Lexeme → 
 past None ts us = ts
 past (Some a) ts us = us
 
--- takes the next token, if it is a mark of which f makes something
-abbrev pub take_as : {A : Type 0} → (Mark → Option A) → Parser (Option A)
-take_as f = λ ts. Some (of_mark f (first ts), past (of_mark f (first ts)) ts (rest ts))
+-- takes the next token, if it is a terminal of which f makes something
+abbrev pub take_as : {A : Type 0} → (Terminal → Option A) → Parser (Option A)
+take_as f = λ ts. Some (of_terminal f (first ts), past (of_terminal f (first ts)) ts (rest ts))
 
 -- The height of a node over parts of this height, which may be no higher than room.
 unfoldable pub height_over : ℕ → ℕ → Option ℕ
@@ -154,7 +154,7 @@ or_closure_color (Some to) ts = Some (to, 1)
 
 -- a type that reserved words name, and how many they are, which is its height too
 unfoldable pub base_at : List Lexeme → Option (BaseType × ℕ)
-base_at ts = or_closure_color (of_mark base_of (first ts)) ts
+base_at ts = or_closure_color (of_terminal base_of (first ts)) ts
 
 -- takes so many tokens, if there is something
 abbrev pub behind : Option (BaseType × ℕ) → List Lexeme → List Lexeme
@@ -212,8 +212,8 @@ listed_from one (suc n) xs h = do
 unfoldable pub listed : {A : Type 0} → Parser (A × ℕ) → Parser (List A × ℕ)
 listed one = λ ts. listed_from one (length ts) [] 1 ts
 
--- the same, but a comma may stand behind the last: there this mark closes the list
-unfoldable pub trailed_from : {A : Type 0} → Mark → Parser (A × ℕ) → ℕ → List A → ℕ → Parser (List A × ℕ)
+-- the same, but a comma may stand behind the last: there this terminal closes the list
+unfoldable pub trailed_from : {A : Type 0} → Terminal → Parser (A × ℕ) → ℕ → List A → ℕ → Parser (List A × ℕ)
 trailed_from close one zero xs h = refuse
 trailed_from close one (suc n) xs h = do
   x ← one
@@ -221,5 +221,5 @@ trailed_from close one (suc n) xs h = do
   ends ← peek close
   if more && not ends then trailed_from close one n (xs ++ x.0 ∷ []) (max h x.1) else pure (xs ++ x.0 ∷ [], max h x.1)
 
-unfoldable pub trailed : {A : Type 0} → Mark → Parser (A × ℕ) → Parser (List A × ℕ)
+unfoldable pub trailed : {A : Type 0} → Terminal → Parser (A × ℕ) → Parser (List A × ℕ)
 trailed close one = λ ts. trailed_from close one (length ts) [] 1 ts

@@ -1,8 +1,8 @@
 -- Reading expressions from the front of a list of tokens, as far as they go.
 use Rattle.std.specs.Prelude.{◌+◌, ℕ, zero, suc, max, Bool, if◌then◌else◌, nat_le, List, [], Option, Some, None}
 use Rattle.osl_tree.specs.declared.token.Punct.TheVariants as p
-use Rattle.osl_tree.specs.declared.mark.Mark.{Mark}
-use Rattle.osl_tree.specs.declared.mark.Mark.TheVariants as m
+use Rattle.osl_tree.specs.declared.terminal.Terminal.{Terminal}
+use Rattle.osl_tree.specs.declared.terminal.Terminal.TheVariants as m
 use Rattle.osl_tree.specs.Lexeme.{Lexeme}
 use Rattle.osl_tree.specs.Lexeme as l
 use Rattle.osl_tree.specs.declared.expr.BaseType.{BaseType}
@@ -15,32 +15,32 @@ use Rattle.osl_tree.specs.declared.expr.Expr.{Expr}
 use Rattle.osl_tree.specs.declared.expr.Expr.TheVariants as e
 use Rattle.osl_tree.specs.declared.expr.Suffix.{Suffix}
 use Rattle.osl_tree.specs.declared.expr.Suffix.TheVariants as suffixes
-use Rattle.osl_tree.specs.Marks.{prefix_of, binary_of, level, assign_of}
+use Rattle.osl_tree.specs.Terminals.{prefix_of, binary_of, level, assign_of}
 use Rattle.osl_tree.specs.Parser.{Parser, ◌>>=◌, ◌>>◌, pure, refuse, first, rest, peek, eat, expect, asks_name, name, past, take_as, take_base, take_cast, node, listed}
 
 -- a tree and its height
 abbrev pub Found : Type 0
 Found = Expr × ℕ
 
--- the operator of a mark, if it binds so tightly
+-- the operator of a terminal, if it binds so tightly
 abbrev pub at_least : ℕ → Option BinaryOp → Option BinaryOp
 at_least k None = None
 at_least k (Some op) = if nat_le k (level op) then Some op else None
 
-abbrev pub operator : ℕ → Mark → Option BinaryOp
-operator k mark = at_least k (binary_of mark)
+abbrev pub operator : ℕ → Terminal → Option BinaryOp
+operator k terminal = at_least k (binary_of terminal)
 
--- the assignment of a mark, at level 0 alone
-abbrev pub storing : ℕ → Mark → Option AssignOp
-storing zero mark = assign_of mark
-storing (suc k) mark = None
+-- the assignment of a terminal, at level 0 alone
+abbrev pub storing : ℕ → Terminal → Option AssignOp
+storing zero terminal = assign_of terminal
+storing (suc k) terminal = None
 
 -- whether `?` belongs to a part of this level
 abbrev pub is_asking : ℕ → Bool
 is_asking k = nat_le k 1
 
 -- what goes on behind a part
-abbrev pub suffix_of : Mark → Option Suffix
+abbrev pub suffix_of : Terminal → Option Suffix
 suffix_of (m.Punct p.OpenBracket) = Some suffixes.Index
 suffix_of (m.Punct p.Dot) = Some suffixes.Field
 suffix_of (m.Punct p.Increment) = Some suffixes.Increment
@@ -55,7 +55,7 @@ literal_of (Some (l.name bytes)) = None
 literal_of (Some (l.int n)) = Some (e.Int n)
 literal_of (Some (l.float units)) = Some (e.Float units)
 literal_of (Some (l.text bytes)) = Some (e.Text bytes)
-literal_of (Some (l.mark mark)) = None
+literal_of (Some (l.terminal terminal)) = None
 
 -- takes a number or a string, if one comes next
 abbrev pub take_literal : Parser (Option Expr)

@@ -1,9 +1,9 @@
 -- Reading declarations and statements from the front of a list of tokens.
 use Rattle.std.specs.Prelude.{ℕ, zero, suc, max, Bool, if◌then◌else◌, List, [], ◌∷◌, ◌++◌, length, Option, Some, None}
 use Rattle.osl_tree.specs.declared.token.Punct.TheVariants as p
-use Rattle.osl_tree.specs.declared.mark.Keyword.TheVariants as w
-use Rattle.osl_tree.specs.declared.mark.Mark.{Mark}
-use Rattle.osl_tree.specs.declared.mark.Mark.TheVariants as m
+use Rattle.osl_tree.specs.declared.terminal.Keyword.TheVariants as w
+use Rattle.osl_tree.specs.declared.terminal.Terminal.{Terminal}
+use Rattle.osl_tree.specs.declared.terminal.Terminal.TheVariants as m
 use Rattle.osl_tree.specs.declared.expr.Expr.{Expr}
 use Rattle.osl_tree.specs.declared.stmt.Item.{Item}
 use Rattle.osl_tree.specs.declared.stmt.Init.{Init}
@@ -60,8 +60,8 @@ declaration room = do
   h ← node room (max to.1 xs.1)
   pure (record { ty = to.0; vars = xs.0 }, h)
 
--- an expression, or nothing where this mark stands
-unfoldable pub maybe : ℕ → Mark → Parser (Option Expr × ℕ)
+-- an expression, or nothing where this terminal is
+unfoldable pub maybe : ℕ → Terminal → Parser (Option Expr × ℕ)
 maybe room close = do
   none ← peek close
   if none then pure (None, 1) else (do x ← expr room 0; pure (Some x.0, x.1))
@@ -87,7 +87,7 @@ for_start room = do
       expect (m.Punct p.Semicolon)
       pure (fors.Expr x.0, x.1)))
 
-abbrev pub start_of : Mark → Option Start
+abbrev pub start_of : Terminal → Option Start
 start_of (m.Punct p.Semicolon) = Some starts.Empty
 start_of (m.Punct p.OpenBrace) = Some starts.Block
 start_of (m.Keyword w.Break) = Some starts.Break

@@ -1,7 +1,7 @@
 -- The grammar's declarations and statements.
 use Rattle.std.specs.Prelude.{ℕ, ◌+◌, max, List, [], ◌∷◌, ◌++◌, Bool, true, false, Option, Some, None, ℤ}
 use Rattle.osl_tree.specs.declared.token.Punct.TheVariants as p
-use Rattle.osl_tree.specs.declared.mark.Keyword.TheVariants as w
+use Rattle.osl_tree.specs.declared.terminal.Keyword.TheVariants as w
 use Rattle.osl_tree.specs.Lexeme.{Lexeme}
 use Rattle.osl_tree.specs.Lexeme as l
 use Rattle.osl_tree.specs.declared.expr.Expr.{Expr}
@@ -15,7 +15,7 @@ use Rattle.osl_tree.specs.declared.stmt.ForStart.{ForStart}
 use Rattle.osl_tree.specs.declared.stmt.ForStart.TheVariants as starts
 use Rattle.osl_tree.specs.declared.stmt.Stmt.{Stmt}
 use Rattle.osl_tree.specs.declared.stmt.Stmt.TheVariants as s
-use Rattle.osl_tree.specs.Marks.{sign, key}
+use Rattle.osl_tree.specs.Terminals.{sign, key}
 use Rattle.osl_tree.specs.Grammar.{IsType, IsExpr, AreExprs}
 
 -- one or more, with commas between them

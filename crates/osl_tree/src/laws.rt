@@ -1,11 +1,23 @@
-//! Laws of the definitions.
+//! Laws of the definitions, each the contract of a function.
 
-ghost use Rattle.std.specs.Prelude.{◌≡◌, ℕ, List};
-ghost use Rattle.osl_tree.specs.declared.token.Token.{Token};
-ghost use Rattle.osl_tree.specs.declared.tree.Tree.{Tree};
-ghost use Rattle.osl_tree.specs.Files.{Spells};
+ghost use Rattle.osl_tree.specs.Laws.{OneTree, SpelledIsRead, ReadIsSpelled, TokensLieWithin};
 
 /// At most one tree spells a list of tokens.
 pub fn one_tree()
-    ensures { (x y : Tree) (source : List ℕ) (tokens : List Token) → Spells x source tokens → Spells y source tokens → x ≡ y }
+    ensures { OneTree }
+{}
+
+/// The definition that reads tokens from the front gives the tree that spells them.
+pub fn spelled_is_read()
+    ensures { SpelledIsRead }
+{}
+
+/// What that definition gives spells the tokens.
+pub fn read_is_spelled()
+    ensures { ReadIsSpelled }
+{}
+
+/// The tokens of a source lie within it.
+pub fn tokens_lie_within()
+    ensures { TokensLieWithin }
 {}

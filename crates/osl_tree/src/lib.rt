@@ -8,9 +8,9 @@
 
 pub mod expr;
 pub mod laws;
-pub mod mark;
 mod role;
 pub mod stmt;
+pub mod terminal;
 pub mod token;
 pub mod tree;
 

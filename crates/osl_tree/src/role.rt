@@ -1,15 +1,15 @@
-//! What marks and reserved words stand for.
+//! What terminals stand for.
 
 ghost use Rattle.std.specs.Prelude.{◌≡◌, ◌≤◌};
-ghost use Rattle.osl_tree.specs.Marks as spec;
+ghost use Rattle.osl_tree.specs.Terminals as spec;
 ghost use Rattle.osl_tree.specs.Reading.{operator, storing, suffix_of};
 ghost use Rattle.osl_tree.specs.StatementReading.{start_of};
 
 use crate::expr::{AssignOp, BaseType, BinaryOp, PrefixOp, Suffix};
-use crate::mark::{Keyword, Mark};
 use crate::stmt::Start;
+use crate::terminal::{Keyword, Terminal};
 use crate::token::Punct;
-use crate::tree::ShaderKind;
+use osl_value::ShaderKind;
 
 impl BinaryOp {
     /// How tightly the operator binds: 2 for the loosest, 11 for the tightest.
@@ -32,20 +32,20 @@ impl BinaryOp {
     }
 }
 
-impl Mark {
+impl Terminal {
     /// The type that this one word names.
     pub fn base(self) -> Option<BaseType>
         ensures { result ≡ spec.base_of self }
     {
         match self {
-            Mark::Keyword(Keyword::Int) => Some(BaseType::Int),
-            Mark::Keyword(Keyword::Float) => Some(BaseType::Float),
-            Mark::Keyword(Keyword::Color) => Some(BaseType::Color),
-            Mark::Keyword(Keyword::Point) => Some(BaseType::Point),
-            Mark::Keyword(Keyword::Vector) => Some(BaseType::Vector),
-            Mark::Keyword(Keyword::Normal) => Some(BaseType::Normal),
-            Mark::Keyword(Keyword::Matrix) => Some(BaseType::Matrix),
-            Mark::Keyword(Keyword::Str) => Some(BaseType::Str),
+            Terminal::Keyword(Keyword::Int) => Some(BaseType::Int),
+            Terminal::Keyword(Keyword::Float) => Some(BaseType::Float),
+            Terminal::Keyword(Keyword::Color) => Some(BaseType::Color),
+            Terminal::Keyword(Keyword::Point) => Some(BaseType::Point),
+            Terminal::Keyword(Keyword::Vector) => Some(BaseType::Vector),
+            Terminal::Keyword(Keyword::Normal) => Some(BaseType::Normal),
+            Terminal::Keyword(Keyword::Matrix) => Some(BaseType::Matrix),
+            Terminal::Keyword(Keyword::Str) => Some(BaseType::Str),
             _ => None,
         }
     }
@@ -55,12 +55,12 @@ impl Mark {
         ensures { result ≡ spec.prefix_of self }
     {
         match self {
-            Mark::Punct(Punct::Minus) => Some(PrefixOp::Minus),
-            Mark::Punct(Punct::Plus) => Some(PrefixOp::Plus),
-            Mark::Punct(Punct::Tilde) => Some(PrefixOp::Complement),
-            Mark::Punct(Punct::Bang) | Mark::Keyword(Keyword::Not) => Some(PrefixOp::Not),
-            Mark::Punct(Punct::Increment) => Some(PrefixOp::Increment),
-            Mark::Punct(Punct::Decrement) => Some(PrefixOp::Decrement),
+            Terminal::Punct(Punct::Minus) => Some(PrefixOp::Minus),
+            Terminal::Punct(Punct::Plus) => Some(PrefixOp::Plus),
+            Terminal::Punct(Punct::Tilde) => Some(PrefixOp::Complement),
+            Terminal::Punct(Punct::Bang) | Terminal::Keyword(Keyword::Not) => Some(PrefixOp::Not),
+            Terminal::Punct(Punct::Increment) => Some(PrefixOp::Increment),
+            Terminal::Punct(Punct::Decrement) => Some(PrefixOp::Decrement),
             _ => None,
         }
     }
@@ -70,10 +70,10 @@ impl Mark {
         ensures { result ≡ suffix_of self }
     {
         match self {
-            Mark::Punct(Punct::OpenBracket) => Some(Suffix::Index),
-            Mark::Punct(Punct::Dot) => Some(Suffix::Field),
-            Mark::Punct(Punct::Increment) => Some(Suffix::Increment),
-            Mark::Punct(Punct::Decrement) => Some(Suffix::Decrement),
+            Terminal::Punct(Punct::OpenBracket) => Some(Suffix::Index),
+            Terminal::Punct(Punct::Dot) => Some(Suffix::Field),
+            Terminal::Punct(Punct::Increment) => Some(Suffix::Increment),
+            Terminal::Punct(Punct::Decrement) => Some(Suffix::Decrement),
             _ => None,
         }
     }
@@ -82,24 +82,24 @@ impl Mark {
         ensures { result ≡ spec.binary_of self }
     {
         match self {
-            Mark::Punct(Punct::OrOr) | Mark::Keyword(Keyword::Or) => Some(BinaryOp::Or),
-            Mark::Punct(Punct::AndAnd) | Mark::Keyword(Keyword::And) => Some(BinaryOp::And),
-            Mark::Punct(Punct::Or) => Some(BinaryOp::BitOr),
-            Mark::Punct(Punct::Xor) => Some(BinaryOp::BitXor),
-            Mark::Punct(Punct::And) => Some(BinaryOp::BitAnd),
-            Mark::Punct(Punct::Equal) => Some(BinaryOp::Equal),
-            Mark::Punct(Punct::NotEqual) => Some(BinaryOp::NotEqual),
-            Mark::Punct(Punct::Less) => Some(BinaryOp::Less),
-            Mark::Punct(Punct::LessEqual) => Some(BinaryOp::LessEqual),
-            Mark::Punct(Punct::Greater) => Some(BinaryOp::Greater),
-            Mark::Punct(Punct::GreaterEqual) => Some(BinaryOp::GreaterEqual),
-            Mark::Punct(Punct::ShiftLeft) => Some(BinaryOp::ShiftLeft),
-            Mark::Punct(Punct::ShiftRight) => Some(BinaryOp::ShiftRight),
-            Mark::Punct(Punct::Plus) => Some(BinaryOp::Add),
-            Mark::Punct(Punct::Minus) => Some(BinaryOp::Subtract),
-            Mark::Punct(Punct::Star) => Some(BinaryOp::Multiply),
-            Mark::Punct(Punct::Slash) => Some(BinaryOp::Divide),
-            Mark::Punct(Punct::Percent) => Some(BinaryOp::Remainder),
+            Terminal::Punct(Punct::OrOr) | Terminal::Keyword(Keyword::Or) => Some(BinaryOp::Or),
+            Terminal::Punct(Punct::AndAnd) | Terminal::Keyword(Keyword::And) => Some(BinaryOp::And),
+            Terminal::Punct(Punct::Or) => Some(BinaryOp::BitOr),
+            Terminal::Punct(Punct::Xor) => Some(BinaryOp::BitXor),
+            Terminal::Punct(Punct::And) => Some(BinaryOp::BitAnd),
+            Terminal::Punct(Punct::Equal) => Some(BinaryOp::Equal),
+            Terminal::Punct(Punct::NotEqual) => Some(BinaryOp::NotEqual),
+            Terminal::Punct(Punct::Less) => Some(BinaryOp::Less),
+            Terminal::Punct(Punct::LessEqual) => Some(BinaryOp::LessEqual),
+            Terminal::Punct(Punct::Greater) => Some(BinaryOp::Greater),
+            Terminal::Punct(Punct::GreaterEqual) => Some(BinaryOp::GreaterEqual),
+            Terminal::Punct(Punct::ShiftLeft) => Some(BinaryOp::ShiftLeft),
+            Terminal::Punct(Punct::ShiftRight) => Some(BinaryOp::ShiftRight),
+            Terminal::Punct(Punct::Plus) => Some(BinaryOp::Add),
+            Terminal::Punct(Punct::Minus) => Some(BinaryOp::Subtract),
+            Terminal::Punct(Punct::Star) => Some(BinaryOp::Multiply),
+            Terminal::Punct(Punct::Slash) => Some(BinaryOp::Divide),
+            Terminal::Punct(Punct::Percent) => Some(BinaryOp::Remainder),
             _ => None,
         }
     }
@@ -118,16 +118,16 @@ impl Mark {
         ensures { result ≡ spec.assign_of self }
     {
         match self {
-            Mark::Punct(Punct::Assign) => Some(AssignOp::Set),
-            Mark::Punct(Punct::PlusAssign) => Some(AssignOp::Add),
-            Mark::Punct(Punct::MinusAssign) => Some(AssignOp::Subtract),
-            Mark::Punct(Punct::StarAssign) => Some(AssignOp::Multiply),
-            Mark::Punct(Punct::SlashAssign) => Some(AssignOp::Divide),
-            Mark::Punct(Punct::ShiftLeftAssign) => Some(AssignOp::ShiftLeft),
-            Mark::Punct(Punct::ShiftRightAssign) => Some(AssignOp::ShiftRight),
-            Mark::Punct(Punct::AndAssign) => Some(AssignOp::BitAnd),
-            Mark::Punct(Punct::OrAssign) => Some(AssignOp::BitOr),
-            Mark::Punct(Punct::XorAssign) => Some(AssignOp::BitXor),
+            Terminal::Punct(Punct::Assign) => Some(AssignOp::Set),
+            Terminal::Punct(Punct::PlusAssign) => Some(AssignOp::Add),
+            Terminal::Punct(Punct::MinusAssign) => Some(AssignOp::Subtract),
+            Terminal::Punct(Punct::StarAssign) => Some(AssignOp::Multiply),
+            Terminal::Punct(Punct::SlashAssign) => Some(AssignOp::Divide),
+            Terminal::Punct(Punct::ShiftLeftAssign) => Some(AssignOp::ShiftLeft),
+            Terminal::Punct(Punct::ShiftRightAssign) => Some(AssignOp::ShiftRight),
+            Terminal::Punct(Punct::AndAssign) => Some(AssignOp::BitAnd),
+            Terminal::Punct(Punct::OrAssign) => Some(AssignOp::BitOr),
+            Terminal::Punct(Punct::XorAssign) => Some(AssignOp::BitXor),
             _ => None,
         }
     }
@@ -144,15 +144,15 @@ impl Mark {
         ensures { result ≡ start_of self }
     {
         match self {
-            Mark::Punct(Punct::Semicolon) => Some(Start::Empty),
-            Mark::Punct(Punct::OpenBrace) => Some(Start::Block),
-            Mark::Keyword(Keyword::Break) => Some(Start::Break),
-            Mark::Keyword(Keyword::Continue) => Some(Start::Continue),
-            Mark::Keyword(Keyword::Return) => Some(Start::Return),
-            Mark::Keyword(Keyword::If) => Some(Start::If),
-            Mark::Keyword(Keyword::While) => Some(Start::While),
-            Mark::Keyword(Keyword::Do) => Some(Start::Do),
-            Mark::Keyword(Keyword::For) => Some(Start::For),
+            Terminal::Punct(Punct::Semicolon) => Some(Start::Empty),
+            Terminal::Punct(Punct::OpenBrace) => Some(Start::Block),
+            Terminal::Keyword(Keyword::Break) => Some(Start::Break),
+            Terminal::Keyword(Keyword::Continue) => Some(Start::Continue),
+            Terminal::Keyword(Keyword::Return) => Some(Start::Return),
+            Terminal::Keyword(Keyword::If) => Some(Start::If),
+            Terminal::Keyword(Keyword::While) => Some(Start::While),
+            Terminal::Keyword(Keyword::Do) => Some(Start::Do),
+            Terminal::Keyword(Keyword::For) => Some(Start::For),
             _ => None,
         }
     }
@@ -162,10 +162,10 @@ impl Mark {
         ensures { result ≡ spec.kind_of self }
     {
         match self {
-            Mark::Keyword(Keyword::Surface) => Some(ShaderKind::Surface),
-            Mark::Keyword(Keyword::Displacement) => Some(ShaderKind::Displacement),
-            Mark::Keyword(Keyword::Volume) => Some(ShaderKind::Volume),
-            Mark::Keyword(Keyword::Shader) => Some(ShaderKind::Generic),
+            Terminal::Keyword(Keyword::Surface) => Some(ShaderKind::Surface),
+            Terminal::Keyword(Keyword::Displacement) => Some(ShaderKind::Displacement),
+            Terminal::Keyword(Keyword::Volume) => Some(ShaderKind::Volume),
+            Terminal::Keyword(Keyword::Shader) => Some(ShaderKind::Shader),
             _ => None,
         }
     }

@@ -71,7 +71,7 @@ pub enum Stmt {
     For(ForStart, Option<Expr>, Option<Expr>, Boxed<Stmt>),
 }
 
-/// How a statement begins that begins with a mark or a reserved word of its own.
+/// How a statement begins that begins with a terminal of its own.
 #[derive(Clone, Copy, Debug, PartialEq, Eq)]
 pub enum Start {
     Empty,

@@ -2,7 +2,7 @@
 
 use osl_value::Fx;
 
-/// A mark: one variant for each.
+/// A punctuation mark.
 #[derive(Clone, Copy, Debug, PartialEq, Eq)]
 pub enum Punct {
     /// `(`
@@ -106,7 +106,7 @@ pub enum TokenKind {
     Float(Fx),
     /// A string in its quotes.
     Str,
-    /// A mark.
+    /// A punctuation mark.
     Punct(Punct),
 }
 

@@ -2,6 +2,7 @@
 //! "Shader declarations" and "Functions".
 
 use crate::stmt::{Init, Item, Stmt, TypeName};
+use osl_value::ShaderKind;
 use sqlite_items::Items;
 
 /// Fields of one type, as they stand on one line of a structure.
@@ -59,15 +60,6 @@ pub struct Param {
     pub item: Item,
     pub init: Init,
     pub metadata: Items<Datum>,
-}
-
-#[derive(Clone, Copy, Debug, PartialEq, Eq)]
-pub enum ShaderKind {
-    Surface,
-    Displacement,
-    Volume,
-    /// `shader`
-    Generic,
 }
 
 /// A shader. It has no metadata of its own where the list is empty.

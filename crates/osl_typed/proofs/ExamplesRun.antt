@@ -16,7 +16,7 @@ use Rattle.osl_layer.specs.declared.global.GlobalName.TheVariants as globals
 use Rattle.osl_layer.specs.Layer.{From, Fixed, Default, Inputs, LayerEnd}
 use Rattle.osl_overload.specs.declared.signature.Kind.{Kind}
 use Rattle.osl_overload.specs.declared.signature.Kind.TheVariants.{Value, Structure, Void}
-use Rattle.osl_tree.specs.declared.tree.ShaderKind.TheVariants as kinds
+use Rattle.osl_value.specs.declared.shader_kind.ShaderKind.TheVariants as kinds
 use Rattle.osl_typed.specs.declared.expr.Root.{Root}
 use Rattle.osl_typed.specs.declared.expr.Root.TheVariants as root
 use Rattle.osl_typed.specs.declared.expr.Part as parts
@@ -64,10 +64,10 @@ abbrev defaults : Inputs
 defaults = λ k. Default
 
 abbrev gives : List (Option AnyValue) → LayerEnd
-gives outputs = record { given = Some (record { outputs = outputs; closure = [] }); reads = λ k. false }
+gives outputs = record { results = Some (record { outputs = outputs; closure = [] }); reads = λ k. false }
 
 abbrev spent : LayerEnd
-spent = record { given = None; reads = λ k. false }
+spent = record { results = None; reads = λ k. false }
 
 -- ---- shader add1(float a = 2, output float r = 0) { r = a + 0.5; }
 
@@ -75,7 +75,7 @@ abbrev add1 : w.Whole
 add1 = record {
   structures = [];
   functions = [];
-  kind = kinds.Generic;
+  kind = kinds.Shader;
   params = record { output = false; ty = float; from = w.promote float (w.int (pos 2)) } ∷ record { output = true; ty = float; from = w.promote float (w.int (pos 0)) } ∷ [];
   kinds = Value float ∷ Value float ∷ [];
   body = w.evaluate (w.set (own 1) (whole float) [] (w.apply_to op.Add float (read float 0 ∷ w.number (pos 500000000) ∷ []))) ∷ [];
@@ -95,7 +95,7 @@ abbrev checker : w.Whole
 checker = record {
   structures = [];
   functions = [];
-  kind = kinds.Generic;
+  kind = kinds.Shader;
   params = record { output = false; ty = float; from = w.promote float (w.int (pos 4)) }
       ∷ record { output = false; ty = color; from = w.promote color (w.int (pos 1)) }
       ∷ record { output = false; ty = color; from = w.promote color (w.int (pos 0)) }
@@ -155,7 +155,7 @@ abbrev from_checker : Inputs
 from_checker = λ k. if k == 0 then From (Some (floats color fifth)) else Default
 
 glossy : source_run (w.shader gloss) from_checker here 65536 ≡ record {
-  given = Some (record {
+  results = Some (record {
     outputs = None ∷ None ∷ [];
     closure = record { weight = pos 180000000 ∷ pos 180000000 ∷ pos 180000000 ∷ []; prim = Diffuse; normal = up; number = pos 0; text = [] }
         ∷ record { weight = pos 100000000 ∷ pos 100000000 ∷ pos 100000000 ∷ []; prim = Reflection; normal = up; number = pos 1500000000; text = [] } ∷ [];
@@ -171,7 +171,7 @@ abbrev turns : w.Whole
 turns = record {
   structures = [];
   functions = [];
-  kind = kinds.Generic;
+  kind = kinds.Shader;
   params = record { output = false; ty = int; from = w.int (pos 0) } ∷ record { output = true; ty = int; from = w.int (pos 0) } ∷ [];
   kinds = Value int ∷ Value int ∷ Value int ∷ [];
   body = w.for_each 2 (Value int) (w.int (pos 0)) (w.apply_to op.Lt int (read int 2 ∷ read int 0 ∷ [])) (w.step IncrementFirst int (own 2))
@@ -195,7 +195,7 @@ abbrev spin : w.Whole
 spin = record {
   structures = [];
   functions = [];
-  kind = kinds.Generic;
+  kind = kinds.Shader;
   params = record { output = true; ty = float; from = w.promote float (w.int (pos 0)) } ∷ [];
   kinds = Value float ∷ [];
   body = w.while_true (w.int (pos 1)) (w.block []) ∷ [];
@@ -226,7 +226,7 @@ passes_by : source_run (w.shader pick) (without_a (pos 0)) here 65536 ≡ gives 
 unfolding leaves_below leaves_before leaves_at with_leaves in_order in_turn loop types_on_the_way selected with_selected finals_from with_elements outputs_from w.routines_below w.defaults_written w.run_of apply root_by root_of int_wrap
 passes_by = w.runs pick (without_a (pos 0)) here 65536 ∙ refl
 
-reads_nothing : source_run (w.shader pick) (without_a (pos 1)) here 65536 ≡ record { given = None; reads = λ k. if k == 1 then true else false }
+reads_nothing : source_run (w.shader pick) (without_a (pos 1)) here 65536 ≡ record { results = None; reads = λ k. if k == 1 then true else false }
 unfolding leaves_below leaves_before leaves_at with_leaves in_order in_turn loop types_on_the_way selected with_selected finals_from with_elements outputs_from w.routines_below w.defaults_written w.run_of apply root_by root_of int_wrap
 reads_nothing = w.runs pick (without_a (pos 1)) here 65536 ∙ refl
 
@@ -242,7 +242,7 @@ abbrev places : w.Whole
 places = record {
   structures = [];
   functions = [];
-  kind = kinds.Generic;
+  kind = kinds.Shader;
   params = record { output = true; ty = float; from = w.promote float (w.int (pos 0)) } ∷ record { output = true; ty = float; from = w.promote float (w.int (pos 0)) } ∷ [];
   kinds = Value float ∷ Value float ∷ Value row_of_three ∷ [];
   body = w.variable_of 2 (Value row_of_three) (w.promote float (w.int (pos 1)) ∷ w.promote float (w.int (pos 2)) ∷ w.promote float (w.int (pos 3)) ∷ [])
@@ -271,7 +271,7 @@ abbrev swaps : w.Whole
 swaps = record {
   structures = [];
   functions = swapping ∷ [];
-  kind = kinds.Generic;
+  kind = kinds.Shader;
   params = record { output = true; ty = float; from = w.promote float (w.int (pos 1)) } ∷ record { output = true; ty = float; from = w.promote float (w.int (pos 2)) } ∷ [];
   kinds = Value float ∷ Value float ∷ [];
   body = w.evaluate (w.call 0 Void (w.lent (own 0) (whole float) [] ∷ w.lent (own 1) (whole float) [] ∷ [])) ∷ [];
@@ -295,7 +295,7 @@ abbrev leaves : w.Whole
 leaves = record {
   structures = [];
   functions = leaving ∷ [];
-  kind = kinds.Generic;
+  kind = kinds.Shader;
   params = record { output = true; ty = float; from = w.promote float (w.int (pos 1)) } ∷ [];
   kinds = Value float ∷ [];
   body = w.evaluate (w.call 0 Void (w.lent (own 0) (whole float) [] ∷ [])) ∷ w.evaluate (w.set (own 0) (whole float) [] (w.promote float (w.int (pos 7)))) ∷ [];
@@ -318,12 +318,12 @@ mixer = record {
   body = w.evaluate (w.set (own 2) (whole float) [] (w.apply_to op.Mix float (read float 0 ∷ read float 1 ∷ w.promote float (w.int (pos 0)) ∷ []))) ∷ [];
 }
 
-mixes_nothing : source_run (w.shader mixer) (λ k. if k == 1 then From None else Default) here 65536 ≡ record { given = None; reads = λ k. if k == 1 then true else false }
+mixes_nothing : source_run (w.shader mixer) (λ k. if k == 1 then From None else Default) here 65536 ≡ record { results = None; reads = λ k. if k == 1 then true else false }
 unfolding leaves_below leaves_before leaves_at with_leaves in_order in_turn loop types_on_the_way selected with_selected finals_from with_elements outputs_from w.routines_below w.defaults_written w.run_of apply root_by root_of int_wrap
 mixes_nothing = w.runs mixer (λ k. if k == 1 then From None else Default) here 65536 ∙ refl
 
 mixes_a_value : source_run (w.shader mixer) (λ k. if k == 1 then From (Some (floats float (pos 7000000000 ∷ []))) else Default) here 65536 ≡ record {
-  given = Some (record { outputs = None ∷ None ∷ Some (floats float (pos 3000000000 ∷ [])) ∷ []; closure = [] });
+  results = Some (record { outputs = None ∷ None ∷ Some (floats float (pos 3000000000 ∷ [])) ∷ []; closure = [] });
   reads = λ k. if k == 1 then true else false;
 }
 unfolding leaves_below leaves_before leaves_at with_leaves in_order in_turn loop types_on_the_way selected with_selected finals_from with_elements outputs_from w.routines_below w.defaults_written w.run_of apply root_by root_of int_wrap
@@ -349,7 +349,7 @@ weighs = record {
 }
 
 weighed : source_run (w.shader weighs) defaults here 65536 ≡ record {
-  given = Some (record {
+  results = Some (record {
     outputs = [];
     closure = record { weight = pos 499999998 ∷ pos 499999998 ∷ pos 499999998 ∷ []; prim = Diffuse; normal = pos 0 ∷ pos 0 ∷ pos 2000000000 ∷ []; number = pos 0; text = [] }
         ∷ record { weight = pos 0 ∷ pos 0 ∷ pos 0 ∷ []; prim = Emission; normal = pos 0 ∷ pos 0 ∷ pos 0 ∷ []; number = pos 0; text = [] } ∷ [];
@@ -390,7 +390,7 @@ abbrev pairs : w.Whole
 pairs = record {
   structures = record { fields = Value float ∷ Value int ∷ [] } ∷ [];
   functions = twice ∷ [];
-  kind = kinds.Generic;
+  kind = kinds.Shader;
   params = record { output = true; ty = float; from = w.promote float (w.int (pos 0)) } ∷ record { output = true; ty = int; from = w.int (pos 0) } ∷ [];
   kinds = Value float ∷ Value int ∷ pair ∷ [];
   body = w.variable_of 2 pair (w.promote float (w.int (pos 1)) ∷ w.int (pos 2) ∷ [])
@@ -409,7 +409,7 @@ abbrev skips : w.Whole
 skips = record {
   structures = [];
   functions = [];
-  kind = kinds.Generic;
+  kind = kinds.Shader;
   params = record { output = true; ty = int; from = w.int (pos 0) } ∷ [];
   kinds = Value int ∷ Value int ∷ [];
   body = w.variable 1 (Value int) (w.int (pos 0))
@@ -433,7 +433,7 @@ abbrev counts : w.Whole
 counts = record {
   structures = [];
   functions = [];
-  kind = kinds.Generic;
+  kind = kinds.Shader;
   params = record { output = true; ty = int; from = w.int (pos 0) } ∷ record { output = true; ty = int; from = w.int (pos 0) } ∷ [];
   kinds = Value int ∷ Value int ∷ Value int ∷ [];
   body = w.variable 2 (Value int) (w.int (pos 3))
@@ -455,7 +455,7 @@ abbrev guards : w.Whole
 guards = record {
   structures = [];
   functions = [];
-  kind = kinds.Generic;
+  kind = kinds.Shader;
   params = zero_int ∷ zero_int ∷ zero_int ∷ zero_int ∷ zero_int ∷ [];
   kinds = Value int ∷ Value int ∷ Value int ∷ Value int ∷ Value int ∷ [];
   body = w.evaluate (w.set (own 0) (whole int) [] (w.both (w.int (pos 0)) (w.step IncrementFirst int (own 4))))
@@ -484,7 +484,7 @@ abbrev early : w.Whole
 early = record {
   structures = [];
   functions = stopping ∷ [];
-  kind = kinds.Generic;
+  kind = kinds.Shader;
   params = record { output = true; ty = float; from = w.promote float (w.int (pos 4)) }
       ∷ record { output = false; ty = float; from = w.call 0 (Value float) [] }
       ∷ record { output = true; ty = float; from = w.promote float (w.int (pos 2)) } ∷ [];

@@ -10,7 +10,7 @@ use Rattle.osl_typed.specs.declared.sizes.Leaves.{Leaves}
 use Rattle.osl_typed.specs.declared.shader.TypedStructure.{TypedStructure}
 use Rattle.osl_typed.specs.Frames.{fields_of, leaves_with, leaves_below}
 use Rattle.osl_typed.specs.Measured.{leaves_sum, shortened, leaves_or_none, IsLeafTable}
-use Rattle.osl_typed.specs.Sizes.{type_slots}
+use Rattle.osl_value.specs.Types.{slot_count}
 
 same_leaves : (a b : Leaves) → a.count ≡ b.count → a.slots ≡ b.slots → a ≡ b
 same_leaves a b p q = λ i. record { count = p i; slots = q i }
@@ -27,7 +27,7 @@ with_zero a b = omega arith
 pub shortened_sum : (xs ys : List Ty) → leaves_sum (shortened xs) (shortened ys) ≡ shortened (xs ++ ys)
 shortened_sum xs ys = same_leaves _ _
     (both_stopped (length xs) (length ys) ∙ ap (min 65537) (sym (length-append xs ys)))
-    (both_stopped (sum_by type_slots xs) (sum_by type_slots ys) ∙ ap (min 65537) (sym (sum_by-append type_slots xs ys)))
+    (both_stopped (sum_by slot_count xs) (sum_by slot_count ys) ∙ ap (min 65537) (sym (sum_by-append slot_count xs ys)))
 
 pub sums_regrouped : (a b c : Leaves) → leaves_sum (leaves_sum a b) c ≡ leaves_sum a (leaves_sum b c)
 sums_regrouped a b c = same_leaves _ _ (regrouped a.count b.count c.count) (regrouped a.slots b.slots c.slots)

@@ -10,7 +10,7 @@ use Rattle.osl_value.specs.AnyValue.{AnyValue}
 use Rattle.osl_layer.specs.Layer.{Input, From, Fixed, Default, Inputs, LayerEnd}
 use Rattle.osl_overload.specs.declared.signature.Formal.{Formal}
 use Rattle.osl_overload.specs.declared.signature.Kind.{Kind}
-use Rattle.osl_tree.specs.declared.tree.ShaderKind.{ShaderKind}
+use Rattle.osl_value.specs.declared.shader_kind.ShaderKind.{ShaderKind}
 use Rattle.osl_typed.specs.declared.expr.Argument.{Argument}
 use Rattle.osl_typed.specs.declared.expr.Argument.TheOpen as node
 use Rattle.osl_typed.specs.declared.expr.Argument.TheVariants as arguments

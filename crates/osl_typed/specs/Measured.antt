@@ -2,7 +2,7 @@
 use Rattle.std.specs.Prelude.{ℕ, ◌≡◌, ◌+◌, min, Bool, true, false, if◌then◌else◌, List, [], ◌∷◌, map, length, Option, None, Some, slice_get, sum_by}
 use Rattle.osl_value.specs.declared.types.Ty.{Ty}
 use Rattle.osl_value.specs.declared.types.Base.TheVariants.{Matrix}
-use Rattle.osl_value.specs.Types.{is_only, longest_text}
+use Rattle.osl_value.specs.Types.{is_only, slot_count, longest_text}
 use Rattle.osl_overload.specs.declared.signature.Kind.{Kind}
 use Rattle.osl_typed.specs.declared.expr.Part.{Part}
 use Rattle.osl_typed.specs.declared.expr.Root.{Root}
@@ -13,7 +13,7 @@ use Rattle.osl_typed.specs.declared.sizes.Leaves.{Leaves}
 use Rattle.osl_typed.specs.declared.sizes.Sizes.{Sizes}
 use Rattle.osl_typed.specs.declared.sizes.Weight.{Weight}
 use Rattle.osl_typed.specs.Frames.{leaves_below}
-use Rattle.osl_typed.specs.Sizes.{◌&◌, nothing, or_nothing, all_of, bare, valued, held, selections, selected_types, field_kinds, root_kind, type_slots, calls_below, size_of, slots_of, calls_of, most_size, most_slots, most_calls, longest_name}
+use Rattle.osl_typed.specs.Sizes.{◌&◌, nothing, or_nothing, all_of, bare, valued, held, selections, selected_types, field_kinds, root_kind, calls_below, size_of, slots_of, calls_of, most_size, most_slots, most_calls, longest_name}
 
 -- ---- weights
 
@@ -33,7 +33,7 @@ cut w = record { size = min size_top w.size; slots = min slots_top w.slots; call
 
 -- the leaves of a type or of types, and their slots
 abbrev pub shortened : List Ty → Leaves
-shortened types = record { count = min size_top (length types); slots = min slots_top (sum_by type_slots types) }
+shortened types = record { count = min size_top (length types); slots = min slots_top (sum_by slot_count types) }
 
 abbrev pub leaves_sum : Leaves → Leaves → Leaves
 leaves_sum a b = record { count = min size_top (a.count + b.count); slots = min slots_top (a.slots + b.slots) }

@@ -6,8 +6,8 @@ use Rattle.osl_layer.specs.Globals.{all_globals, global_text, type_of_global}
 use Rattle.osl_overload.specs.declared.signature.Kind.{Kind}
 use Rattle.osl_overload.specs.declared.signature.Kind.TheVariants.{Value}
 use Rattle.osl_overload.specs.declared.signature.Signature.{Signature}
-use Rattle.osl_tree.specs.declared.tree.ShaderKind.{ShaderKind}
-use Rattle.osl_tree.specs.declared.tree.ShaderKind.TheVariants.{Surface, Displacement, Volume}
+use Rattle.osl_value.specs.declared.shader_kind.ShaderKind.{ShaderKind}
+use Rattle.osl_value.specs.declared.shader_kind.ShaderKind.TheVariants.{Surface, Displacement, Volume}
 use Rattle.osl_typed.specs.declared.expr.Root.TheVariants as root
 use Rattle.osl_typed.specs.declared.found.Binding.{Binding}
 use Rattle.osl_typed.specs.declared.found.Callee.{Callee}

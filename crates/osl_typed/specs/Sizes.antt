@@ -1,9 +1,8 @@
 -- The sizes of a typed shader: how much code it may become, how many slots that may need, and how many functions are open at once. The nodes that count are the expressions, the promotions, the brace lists, the statements, the declared variables and the shader's parameters. Functions count where they are called, and metadata does not count.
 use Rattle.std.specs.Prelude.{ℕ, zero, suc, ◌+◌, ◌*◌, ◌==◌, max, if◌then◌else◌, List, [], ◌∷◌, length, map, Option, None, Some, slice_get, slice_index_or, sum_by}
-use Rattle.osl_value.specs.declared.types.Base.{Base}
-use Rattle.osl_value.specs.declared.types.Base.TheVariants.{Int, Float, Color, Point, Vector, Normal, Matrix, Str, Closure}
+use Rattle.osl_value.specs.declared.types.Base.TheVariants.{Int, Float, Str}
 use Rattle.osl_value.specs.declared.types.Ty.{Ty}
-use Rattle.osl_value.specs.Types.{element_count, only}
+use Rattle.osl_value.specs.Types.{slot_count, only}
 use Rattle.osl_layer.specs.Globals.{type_of_global}
 use Rattle.osl_overload.specs.declared.signature.Formal.{Formal}
 use Rattle.osl_overload.specs.declared.signature.Kind.{Kind}
@@ -50,22 +49,8 @@ or_nothing (Some w) = w
 
 -- ---- slots of types
 
-abbrev pub slots_in : Base → ℕ
-slots_in Int = 1
-slots_in Float = 1
-slots_in Color = 3
-slots_in Point = 3
-slots_in Vector = 3
-slots_in Normal = 3
-slots_in Matrix = 16
-slots_in Str = 32
-slots_in Closure = 1
-
-abbrev pub type_slots : Ty → ℕ
-type_slots ty = element_count ty * slots_in ty.base
-
 abbrev pub kind_slots : List TypedStructure → Kind → ℕ
-kind_slots structures kind = sum_by type_slots (leaves_of structures kind)
+kind_slots structures kind = sum_by slot_count (leaves_of structures kind)
 
 -- ---- nodes by their kinds
 

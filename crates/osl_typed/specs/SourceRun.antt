@@ -68,16 +68,16 @@ unfoldable pub outputs_from : (ℕ → AnyValue) → ℕ → List TypedParam →
 outputs_from vars k [] = []
 outputs_from vars k (param ∷ params) = (if param.output then Some (vars k) else None) ∷ outputs_from vars (k + 1) params
 
-abbrev given_by : TypedShader → State → LayerEnd
-given_by t s = record { given = Some (record { outputs = outputs_from s.vars 0 t.params; closure = parts_of (s.globals Ci) }); reads = s.reads }
+abbrev results_by : TypedShader → State → LayerEnd
+results_by t s = record { results = Some (record { outputs = outputs_from s.vars 0 t.params; closure = parts_of (s.globals Ci) }); reads = s.reads }
 
 abbrev pub layer_end : TypedShader → StatementEnd → LayerEnd
-layer_end t (Next s) = given_by t s
-layer_end t (Breaks s) = given_by t s
-layer_end t (Continues s) = given_by t s
-layer_end t (Returns v s) = given_by t s
-layer_end t (Exits s) = given_by t s
-layer_end t (Spent s) = record { given = None; reads = s.reads }
+layer_end t (Next s) = results_by t s
+layer_end t (Breaks s) = results_by t s
+layer_end t (Continues s) = results_by t s
+layer_end t (Returns v s) = results_by t s
+layer_end t (Exits s) = results_by t s
+layer_end t (Spent s) = record { results = None; reads = s.reads }
 
 -- A layer run from its source: its outputs and the parts of `Ci`, or nothing where it is spent; and the connected parameters that it read.
 unfoldable pub source_run : TypedShader → Inputs → Point → ℕ → LayerEnd

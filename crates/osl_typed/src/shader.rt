@@ -3,8 +3,7 @@
 
 use crate::stmt::{TypedInit, TypedStmt};
 use osl_overload::{Formal, Kind};
-use osl_tree::tree::ShaderKind;
-use osl_value::Ty;
+use osl_value::{ShaderKind, Ty};
 use sqlite_items::Items;
 
 /// A structure: the kinds of its fields. It is known by its number, counted from 0 in the order of

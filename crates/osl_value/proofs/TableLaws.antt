@@ -5,15 +5,16 @@ use Rattle.std.proofs.lemmas.Bool.{false≢true, and_parts, and_from, cond-true,
 use Rattle.osl_value.specs.declared.types.Base.{Base}
 use Rattle.osl_value.specs.declared.types.Base.TheVariants.{Int, Float, Color, Point, Vector, Normal, Matrix, Str, Closure}
 use Rattle.osl_value.specs.declared.types.Ty.{Ty}
-use Rattle.osl_value.specs.AnyValue.{AnyValue, type_of, with_numbers, argument, floats_of, zero_value, converted, is_one_triple, is_assignable, element_type}
+use Rattle.osl_value.specs.AnyValue.{AnyValue, Of, Parts, type_of, with_numbers, argument, floats_of, zero_value, converted, is_one_triple, is_assignable, element_type}
 use Rattle.osl_value.specs.Apply.{apply, is_allowed, takes_ints, takes_floats, takes_other, other_value, first_value, ints_value, floats_value, row_takes, row_value}
 use Rattle.osl_value.specs.Forms.{Form, AnInt, AFloat, ANumber, Floats, ATriple, APoint, ANormal, AMatrix, AString, AClosure, AFactor, fits, seen_of, Seen, value_seen}
 use Rattle.osl_value.specs.Geometry.{number_at, repeated}
-use Rattle.osl_value.specs.Laws.{IntsGiveInts, FloatsGiveFloats, WritesItsType, CopiesItsType, int_value}
+use Rattle.osl_value.specs.Laws.{IntsGiveInts, FloatsGiveFloats, WritesItsType, HasValues, AppliedType, CopiesItsType, int_value}
 use Rattle.osl_value.specs.Numbers.{Numeric, Never, One, Two, Three, arity, value_at}
+use Rattle.osl_value.specs.Plain.{zero_of}
 use Rattle.osl_value.specs.Table.{Rule, On, Made, Assigned, ElementRead, ElementWritten, LengthRead, Row, table}
-use Rattle.osl_value.specs.Types.{only, same_type}
-use Rattle.osl_value.proofs.SameTypes.{same_type-true, same_type-refl}
+use Rattle.osl_value.specs.Types.{only, same_base, same_type}
+use Rattle.osl_value.proofs.SameTypes.{same_base-true, same_type-true, same_type-refl}
 
 -- ---- ints
 
@@ -110,7 +111,7 @@ writes_converted ty v =
     (λ same. sym (same_type-true ty (type_of v) same))
     (λ other. cond_both (is_one_triple ty) (with_numbers ty (repeated 3 (floats_of v))) (with_numbers ty (floats_of v)) (λ x. type_of x ≡ ty) (λ e. refl) (λ e. refl))
 
-writes_other : (ty : Ty) (args : List AnyValue) (rule : Rule) → takes_other ty (map type_of args) rule ≡ true
+pub writes_other : (ty : Ty) (args : List AnyValue) (rule : Rule) → takes_other ty (map type_of args) rule ≡ true
     → type_of (other_value ty args rule) ≡ ty
 writes_other ty args (On forms result f) h = writes_seen result ty _ (and_parts _ _ h).0
 writes_other ty args (Made count result) h = refl
@@ -144,6 +145,33 @@ row_writes r ty args h =
 pub writes_its_type : WritesItsType
 unfolding apply is_allowed
 writes_its_type op ty args h = row_writes (table op) ty args h
+
+-- ---- the written type, whatever the arguments are
+
+closure_alone : (ty : Ty) → HasValues ty → same_base ty.base Closure ≡ true → only Closure ≡ ty
+closure_alone ty has is = let base = same_base-true ty.base Closure is in let len = has base in sym (λ i. record { base = base i; len = len i })
+
+zero_type : (ty : Ty) → HasValues ty → type_of (zero_value ty) ≡ ty
+zero_type ty has =
+    cond_both (same_base ty.base Closure) (Parts []) (Of (zero_of ty)) (λ x. type_of x ≡ ty) (λ is. closure_alone ty has is) (λ other. refl)
+
+first_type : (ty : Ty) (args : List AnyValue) (rules : List Rule) → HasValues ty → type_of (first_value ty args rules) ≡ ty
+first_type ty args [] has = zero_type ty has
+first_type ty args (rule ∷ rules) has =
+    cond_both (takes_other ty (map type_of args) rule) (other_value ty args rule) (first_value ty args rules) (λ x. type_of x ≡ ty) (λ takes. writes_other ty args rule takes) (λ passes. first_type ty args rules has)
+
+row_type : (r : Row) (ty : Ty) (args : List AnyValue) → HasValues ty → type_of (row_value r ty args) ≡ ty
+row_type r ty args has =
+    let types = map type_of args in
+    let below = cond (takes_floats r ty types) (floats_value r ty args) (first_value ty args r.others) in
+    cond_both (takes_ints r ty types) (ints_value r ty args) below (λ x. type_of x ≡ ty) (λ e. refl)
+    (λ no_ints.
+    cond_both (takes_floats r ty types) (floats_value r ty args) (first_value ty args r.others) (λ x. type_of x ≡ ty) (λ e. refl)
+    (λ no_floats. first_type ty args r.others has))
+
+pub applied_type : AppliedType
+unfolding apply
+applied_type op ty args has = row_type (table op) ty args has
 
 -- ---- copies
 

@@ -4,7 +4,7 @@ use Rattle.std.specs.Int.{w32}
 use Rattle.std.specs.List.{All}
 use Rattle.osl_value.specs.declared.op_name.OpName.{OpName}
 use Rattle.osl_value.specs.declared.op_name.OpName.TheVariants.{Assign}
-use Rattle.osl_value.specs.declared.types.Base.TheVariants.{Int}
+use Rattle.osl_value.specs.declared.types.Base.TheVariants.{Int, Closure}
 use Rattle.osl_value.specs.declared.types.Ty.{Ty}
 use Rattle.osl_value.specs.declared.closure.Part.{Part}
 use Rattle.osl_value.specs.Closures.{full_weight, weighted}
@@ -42,6 +42,14 @@ abbrev pub WritesItsType : Type 0
 WritesItsType =
     (op : OpName) (ty : Ty) (args : List AnyValue) → IsTrue (is_allowed op ty (map type_of args))
     → type_of (apply op ty args) ≡ ty
+
+-- a type that values have, which is no array of closures
+abbrev pub HasValues : Ty → Type 0
+HasValues ty = ty.base ≡ Closure → ty.len ≡ 0
+
+-- and so it has whatever the arguments are
+abbrev pub AppliedType : Type 0
+AppliedType = (op : OpName) (ty : Ty) (args : List AnyValue) → HasValues ty → type_of (apply op ty args) ≡ ty
 
 -- an assignment to a variable of the same type is a copy
 abbrev pub CopiesItsType : Type 0

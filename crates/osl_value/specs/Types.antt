@@ -82,6 +82,22 @@ number_count ty = element_count ty * numbers_in ty.base
 abbrev pub text_count : Ty → ℕ
 text_count ty = element_count ty * texts_in ty.base
 
+-- how many slots one element takes up: 1 for an int, a float or a closure, 3 for a triple, 16 for a matrix, 32 for a string
+abbrev pub slots_in : Base → ℕ
+slots_in Int = 1
+slots_in Float = 1
+slots_in Color = 3
+slots_in Point = 3
+slots_in Vector = 3
+slots_in Normal = 3
+slots_in Matrix = 16
+slots_in Str = 32
+slots_in Closure = 1
+
+-- the slots of a value, by which code is limited
+abbrev pub slot_count : Ty → ℕ
+slot_count ty = element_count ty * slots_in ty.base
+
 -- the most bytes of a string, and the most elements of an array
 abbrev pub longest_text : ℕ
 longest_text = 512

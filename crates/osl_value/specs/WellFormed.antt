@@ -2,7 +2,9 @@
 use Rattle.std.specs.Prelude.{ℕ, ◌≡◌, ◌≤◌, ℤ, List, length}
 use Rattle.std.specs.List.{All}
 use Rattle.osl_value.specs.declared.closure.Part.{Part}
-use Rattle.osl_value.specs.AnyValue.{AnyValue, Of, Parts}
+use Rattle.osl_value.specs.declared.point.Point.{Point}
+use Rattle.osl_value.specs.declared.types.Ty.{Ty}
+use Rattle.osl_value.specs.AnyValue.{AnyValue, Of, Parts, type_of}
 use Rattle.osl_value.specs.Closures.{most_parts}
 use Rattle.osl_value.specs.Numbers.{IsInRange}
 use Rattle.osl_value.specs.Plain.{IsPlain}
@@ -24,3 +26,17 @@ pub record AreParts (parts : List Part) : Type 0 where
 abbrev pub IsValue : AnyValue → Type 0
 IsValue (Of v) = IsPlain v.ty v.nums v.texts
 IsValue (Parts parts) = AreParts parts
+
+-- a value of this type
+pub record IsOfType (ty : Ty) (v : AnyValue) : Type 0 where
+  pub value : IsValue v
+  pub type : type_of v ≡ ty
+
+-- a point's numbers are floats
+pub record IsPoint (point : Point) : Type 0 where
+  pub p : AreFloats 3 point.p
+  pub n : AreFloats 3 point.n
+  pub ng : AreFloats 3 point.ng
+  pub i : AreFloats 3 point.i
+  pub u : IsInRange point.u
+  pub v : IsInRange point.v

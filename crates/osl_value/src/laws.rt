@@ -1,6 +1,6 @@
 //! Laws of the definitions, each the contract of a function.
 
-ghost use Rattle.osl_value.specs.Laws.{NamesDiffer, IntsGiveInts, FloatsGiveFloats, WritesItsType, CopiesItsType, GivesValues, FloatsKeep, IntsKeep, ClosuresKeep};
+ghost use Rattle.osl_value.specs.Laws.{NamesDiffer, IntsGiveInts, FloatsGiveFloats, WritesItsType, AppliedType, CopiesItsType, GivesValues, FloatsKeep, IntsKeep, ClosuresKeep};
 
 /// No two operations have one name, so `from_name` gives back the operation whose `name` it reads.
 pub fn names_differ()
@@ -21,6 +21,12 @@ pub fn floats_give_floats()
 /// An operation gives a value of the type that it writes.
 pub fn writes_its_type()
     ensures { WritesItsType }
+{}
+
+/// Whatever its arguments are, it gives a value of the type that is to be written, unless that is an
+/// array of closures, which no value has.
+pub fn applied_type()
+    ensures { AppliedType }
 {}
 
 /// On values it gives a value: its counts fit its type, and its numbers are in range.

@@ -1,5 +1,5 @@
-ghost use Rattle.std.specs.Prelude.{◌≡◌, ◌≢◌, ◌↔◌, IsTrue};
-ghost use Rattle.osl_value.specs.Types.{base_name, only, is_triple, element_count, number_count, text_count};
+ghost use Rattle.std.specs.Prelude.{◌≡◌, ◌<◌, ◌^◌};
+ghost use Rattle.osl_value.specs.Types.{base_name, only, is_triple, element_count, number_count, text_count, slot_count};
 
 /// What an element of a type is made of (OSL specification, "Data types").
 #[derive(Clone, Copy, Debug, PartialEq, Eq)]
@@ -89,5 +89,20 @@ impl Ty {
             Base::Str => self.element_count(),
             _ => 0,
         }
+    }
+
+    /// The slots that a value takes up: 1 for an int, a float or a closure, 3 for a triple, 16 for
+    /// a matrix, 32 for a string, and an array's length times as many.
+    pub fn slot_count(self) -> u64
+        ensures value { result ≡ slot_count self }
+        ensures small { result < 2 ^ 40 }
+    {
+        let in_element = match self.base {
+            Base::Int | Base::Float | Base::Closure => 1,
+            Base::Color | Base::Point | Base::Vector | Base::Normal => 3,
+            Base::Matrix => 16,
+            Base::Str => 32,
+        };
+        self.element_count() as u64 * in_element
     }
 }

@@ -12,7 +12,7 @@ use Rattle.osl_value.specs.Types.{only}
 use Rattle.oso_code.specs.declared.error.FlawKind.TheVariants as K
 use Rattle.oso_code.specs.declared.op.Op.{Op}
 use Rattle.oso_code.specs.declared.raw.Raw.{Raw}
-use Rattle.oso_code.specs.declared.raw.ShaderKind.TheVariants.{Shader}
+use Rattle.osl_value.specs.declared.shader_kind.ShaderKind.TheVariants.{Shader}
 use Rattle.oso_code.specs.declared.symbol.Class.{Class}
 use Rattle.oso_code.specs.declared.symbol.Class.TheVariants.{Param, Oparam, Const}
 use Rattle.oso_code.specs.declared.symbol.Symbol.{Symbol}
@@ -92,21 +92,21 @@ break_inside = refl
 
 -- ---- runs
 
-given_three : (code_run one (a_is (Some three)) origin 1).given ≡ Some (record { outputs = None ∷ Some three ∷ []; closure = [] })
+given_three : (code_run one (a_is (Some three)) origin 1).results ≡ Some (record { outputs = None ∷ Some three ∷ []; closure = [] })
 unfolding code_run run loop put step_of apply
 given_three = refl
 
-given_nothing : (code_run one (a_is None) origin 1).given ≡ None
+given_nothing : (code_run one (a_is None) origin 1).results ≡ None
 unfolding code_run run loop put step_of apply
 given_nothing = refl
 
 -- a `while` on a 1 with empty ranges spends any budget
-never_ends : (code_run (shader (op O.While (3 ∷ []) (1 ∷ 1 ∷ []) ∷ [])) defaults origin 3).given ≡ None
+never_ends : (code_run (shader (op O.While (3 ∷ []) (1 ∷ 1 ∷ []) ∷ [])) defaults origin 3).results ≡ None
 unfolding code_run run loop put step_of apply
 never_ends = refl
 
 -- a `dowhile` on a 0 with empty ranges takes one turn
-one_turn : (code_run (shader (op O.DoWhile (2 ∷ []) (1 ∷ 1 ∷ []) ∷ [])) defaults origin 1).given ≡ Some (record { outputs = None ∷ Some (Of (float_of (pos 0))) ∷ []; closure = [] })
+one_turn : (code_run (shader (op O.DoWhile (2 ∷ []) (1 ∷ 1 ∷ []) ∷ [])) defaults origin 1).results ≡ Some (record { outputs = None ∷ Some (Of (float_of (pos 0))) ∷ []; closure = [] })
 unfolding code_run run loop put step_of apply
 one_turn = refl
 

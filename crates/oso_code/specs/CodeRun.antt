@@ -14,7 +14,7 @@ use Rattle.oso_code.specs.declared.symbol.Class.{Class}
 use Rattle.oso_code.specs.declared.symbol.Class.TheVariants.{Param, Oparam, Global, Const, Local, Temp}
 use Rattle.oso_code.specs.declared.symbol.Symbol.{Symbol}
 use Rattle.osl_layer.specs.Globals.{global_named, global_text, global_at}
-use Rattle.osl_layer.specs.Layer.{Input, From, Fixed, Default, Inputs, Given, LayerEnd}
+use Rattle.osl_layer.specs.Layer.{Input, From, Fixed, Default, Inputs, LayerResults, LayerEnd}
 use Rattle.oso_code.specs.Ranges.{steps_of}
 use Rattle.oso_code.specs.Run.{State, Source, Sources, Own, Wired, Outcome, Next, Leaves, Spent, last, then_do, range}
 use Rattle.oso_code.specs.Steps.{Step}
@@ -114,18 +114,18 @@ abbrev pub closure_from : ℕ → List Symbol → (ℕ → AnyValue) → List Pa
 closure_from at [] values = []
 closure_from at (symbol ∷ symbols) values = if is_ci symbol then parts_of (values at) else closure_from (at + 1) symbols values
 
-abbrev pub given_by : Raw → State → Given
-given_by raw s = record { outputs = outputs_from 0 raw.symbols s.values; closure = closure_from 0 raw.symbols s.values }
+abbrev pub results_by : Raw → State → LayerResults
+results_by raw s = record { outputs = outputs_from 0 raw.symbols s.values; closure = closure_from 0 raw.symbols s.values }
 
-abbrev pub given_at : Raw → Outcome → Option Given
-given_at raw (Next s) = Some (given_by raw s)
-given_at raw (Leaves way s) = Some (given_by raw s)
+abbrev pub given_at : Raw → Outcome → Option LayerResults
+given_at raw (Next s) = Some (results_by raw s)
+given_at raw (Leaves way s) = Some (results_by raw s)
 given_at raw (Spent s) = None
 
 unfoldable pub code_run : Raw → Inputs → Point → ℕ → LayerEnd
 code_run raw inputs point budget =
     let outcome = layer_outcome raw inputs point budget in
-    record { given = given_at raw outcome; reads = (last outcome).reads }
+    record { results = given_at raw outcome; reads = (last outcome).reads }
 
 -- how many ops it ran
 unfoldable pub ops_run : Raw → Inputs → Point → ℕ → ℕ

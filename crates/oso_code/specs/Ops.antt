@@ -11,8 +11,8 @@ use Rattle.osl_value.specs.Types.{only, is_only}
 use Rattle.oso_code.specs.declared.op.Op.{Op}
 use Rattle.oso_code.specs.declared.op.Section.{Section}
 use Rattle.oso_code.specs.declared.raw.Raw.{Raw}
-use Rattle.oso_code.specs.declared.raw.ShaderKind.{ShaderKind}
-use Rattle.oso_code.specs.declared.raw.ShaderKind.TheVariants.{Surface, Displacement, Volume}
+use Rattle.osl_value.specs.declared.shader_kind.ShaderKind.{ShaderKind}
+use Rattle.osl_value.specs.declared.shader_kind.ShaderKind.TheVariants.{Surface, Displacement, Volume}
 use Rattle.oso_code.specs.declared.symbol.Class.{Class}
 use Rattle.oso_code.specs.declared.symbol.Class.TheVariants.{Param, Oparam, Global, Const, Local, Temp}
 use Rattle.oso_code.specs.declared.symbol.Symbol.{Symbol}

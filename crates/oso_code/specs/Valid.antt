@@ -1,9 +1,6 @@
 -- Which code is valid, and the first flaw of code that is not (oso text, validity and limits).
-use Rattle.std.specs.Prelude.{◌≡◌, ◌↔◌, IsTrue, slice_get, ℕ, ◌+◌, ◌*◌, nat_lt, nat_le, Bool, ◌&&◌, ◌||◌, List, [], ◌∷◌, length, Option, Some, None}
-use Rattle.osl_value.specs.declared.types.Base.{Base}
-use Rattle.osl_value.specs.declared.types.Base.TheVariants.{Int, Float, Color, Point, Vector, Normal, Matrix, Str, Closure}
-use Rattle.osl_value.specs.declared.types.Ty.{Ty}
-use Rattle.osl_value.specs.Types.{element_count}
+use Rattle.std.specs.Prelude.{◌≡◌, ◌↔◌, IsTrue, slice_get, ℕ, ◌+◌, nat_lt, nat_le, Bool, ◌&&◌, ◌||◌, List, [], ◌∷◌, length, Option, Some, None}
+use Rattle.osl_value.specs.Types.{slot_count}
 use Rattle.oso_code.specs.declared.error.FlawKind.{FlawKind}
 use Rattle.oso_code.specs.declared.error.FlawKind.TheVariants as K
 use Rattle.oso_code.specs.declared.op.Op.{Op}
@@ -31,23 +28,9 @@ most_slots = 65536
 abbrev pub most_nested : ℕ
 most_nested = 4608
 
-abbrev pub slots_in : Base → ℕ
-slots_in Int = 1
-slots_in Float = 1
-slots_in Color = 3
-slots_in Point = 3
-slots_in Vector = 3
-slots_in Normal = 3
-slots_in Matrix = 16
-slots_in Str = 32
-slots_in Closure = 1
-
-abbrev pub slots_of_type : Ty → ℕ
-slots_of_type ty = element_count ty * slots_in ty.base
-
 abbrev pub slots_of : List Symbol → ℕ
 slots_of [] = 0
-slots_of (symbol ∷ symbols) = slots_of_type symbol.ty + slots_of symbols
+slots_of (symbol ∷ symbols) = slot_count symbol.ty + slots_of symbols
 
 -- an op's ranges are one deeper than the op
 abbrev pub nests_within : List Step → ℕ → Step → Bool

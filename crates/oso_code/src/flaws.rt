@@ -14,10 +14,10 @@ use crate::checks::sections::{first_wrong_section, owner_in, section_from, soone
 use crate::checks::symbols::{header_fits, symbol_fits};
 use crate::error::FlawKind;
 use crate::op::{Op, Section};
-use crate::raw::{Raw, ShaderKind};
+use crate::raw::Raw;
 use crate::symbol::Symbol;
 use indexmap::IndexSet;
-use osl_value::Memory;
+use osl_value::{Memory, ShaderKind};
 use std::alloc::Global;
 
 /// The number of the first symbol that does not fit, its name being taken by an earlier one included.

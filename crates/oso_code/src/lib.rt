@@ -26,7 +26,7 @@ mod valid;
 pub use error::{CodeError, FlawKind};
 pub use list::ListOf;
 pub use op::{Op, Section};
-pub use raw::{Raw, ShaderKind};
+pub use raw::Raw;
 pub use shader::Shader;
 pub use symbol::{Class, Meta, Symbol};
 pub use valid::validate;

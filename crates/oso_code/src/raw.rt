@@ -1,17 +1,7 @@
 use crate::list::ListOf;
 use crate::op::{Op, Section};
 use crate::symbol::{Meta, Symbol};
-use osl_value::Text;
-
-/// The kind of a shader (OSL specification, "Shader types").
-#[derive(Clone, Copy, Debug, PartialEq, Eq)]
-pub enum ShaderKind {
-    Surface,
-    Displacement,
-    Volume,
-    /// A shader of any use.
-    Shader,
-}
+use osl_value::{ShaderKind, Text};
 
 /// Code as it stands in a text, valid or not.
 #[derive(Debug, Drop)]

@@ -8,8 +8,8 @@ use Rattle.osl_value.specs.OpText.{name_of}
 use Rattle.oso_code.specs.declared.op.Op.{Op}
 use Rattle.oso_code.specs.declared.op.Section.{Section}
 use Rattle.oso_code.specs.declared.raw.Raw.{Raw}
-use Rattle.oso_code.specs.declared.raw.ShaderKind.{ShaderKind}
-use Rattle.oso_code.specs.declared.raw.ShaderKind.TheVariants as kinds
+use Rattle.osl_value.specs.declared.shader_kind.ShaderKind.{ShaderKind}
+use Rattle.osl_value.specs.declared.shader_kind.ShaderKind.TheVariants as kinds
 use Rattle.oso_code.specs.declared.symbol.Class.{Class}
 use Rattle.oso_code.specs.declared.symbol.Class.TheVariants as classes
 use Rattle.oso_code.specs.declared.symbol.Symbol.{Symbol}

@@ -12,8 +12,8 @@ use Rattle.osl_value.specs.declared.types.Ty.{Ty}
 use Rattle.osl_value.specs.Plain.{Plain}
 use Rattle.osl_value.specs.Types.{same_type, only, longest_array, longest_text}
 use Rattle.osl_value.proofs.SameTypes.{same_type-true}
-use Rattle.oso_code.specs.declared.raw.ShaderKind.{ShaderKind}
-use Rattle.oso_code.specs.declared.raw.ShaderKind.TheVariants as kinds
+use Rattle.osl_value.specs.declared.shader_kind.ShaderKind.{ShaderKind}
+use Rattle.osl_value.specs.declared.shader_kind.ShaderKind.TheVariants as kinds
 use Rattle.oso_code.specs.declared.symbol.Class.{Class}
 use Rattle.oso_code.specs.declared.symbol.Class.TheVariants as classes
 use Rattle.oso_code.specs.declared.symbol.Meta.{Meta}

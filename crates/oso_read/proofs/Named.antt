@@ -5,9 +5,10 @@ use Rattle.std.specs.List.{list_any, position, position_or_len}
 use Rattle.std.specs.Str.{bytes_eq}
 use Rattle.std.proofs.lemmas.List.{map-append, length-map}
 use Rattle.osl_value.specs.declared.types.Ty.{Ty}
+use Rattle.osl_value.specs.Types.{slot_count}
 use Rattle.oso_code.specs.declared.symbol.Symbol.{Symbol}
 use Rattle.oso_code.specs.Symbols.{is_parameter, are_parameters, is_taken}
-use Rattle.oso_code.specs.Valid.{slots_of, slots_of_type, most_symbols, most_slots}
+use Rattle.oso_code.specs.Valid.{slots_of, most_symbols, most_slots}
 use Rattle.oso_read.specs.SymbolNames.{names_of, has_room}
 
 pub any_map : {K : Type 0} (f : K → List ℕ) (test : List ℕ → Bool) (keys : List K) → list_any (λ k. test (f k)) keys ≡ list_any test (map f keys)
@@ -42,7 +43,7 @@ names_more symbols symbol names more name was grown is =
     grown ∙ ap (λ (ns : List (List ℕ)). ns ++ name ∷ []) was ∙ ap (λ (n : List ℕ). names_of symbols ++ n ∷ []) is
     ∙ sym (map-append (λ (s : Symbol). s.name) symbols (symbol ∷ []))
 
-pub slots_more : (symbols : List Symbol) (symbol : Symbol) → slots_of (symbols ++ symbol ∷ []) ≡ slots_of symbols + slots_of_type symbol.ty
+pub slots_more : (symbols : List Symbol) (symbol : Symbol) → slots_of (symbols ++ symbol ∷ []) ≡ slots_of symbols + slot_count symbol.ty
 slots_more [] symbol = omega arith
 slots_more (s ∷ symbols) symbol = omega (arith, slots_more symbols symbol)
 
@@ -65,11 +66,11 @@ absent_where_fits true false found e h = refl
 absent_where_fits false taken found e h = absurd cc
 
 pub room_parts : (symbols : List Symbol) (ty : Ty) → has_room symbols ty ≡ true
-    → (length symbols < most_symbols) × (slots_of symbols + slots_of_type ty ≤ most_slots)
-room_parts symbols ty h = go (nat_lt (length symbols) most_symbols) (nat_le (slots_of symbols + slots_of_type ty) most_slots) refl refl h
+    → (length symbols < most_symbols) × (slots_of symbols + slot_count ty ≤ most_slots)
+room_parts symbols ty h = go (nat_lt (length symbols) most_symbols) (nat_le (slots_of symbols + slot_count ty) most_slots) refl refl h
   where
-    go : (a b : Bool) → nat_lt (length symbols) most_symbols ≡ a → nat_le (slots_of symbols + slots_of_type ty) most_slots ≡ b → (a && b) ≡ true
-        → (length symbols < most_symbols) × (slots_of symbols + slots_of_type ty ≤ most_slots)
-    go true true e f g = let below : length symbols < most_symbols = search (rules, tests) in let within : slots_of symbols + slots_of_type ty ≤ most_slots = search (rules, tests) in (below, within)
+    go : (a b : Bool) → nat_lt (length symbols) most_symbols ≡ a → nat_le (slots_of symbols + slot_count ty) most_slots ≡ b → (a && b) ≡ true
+        → (length symbols < most_symbols) × (slots_of symbols + slot_count ty ≤ most_slots)
+    go true true e f g = let below : length symbols < most_symbols = search (rules, tests) in let within : slots_of symbols + slot_count ty ≤ most_slots = search (rules, tests) in (below, within)
     go true false e f g = absurd cc
     go false b e f g = absurd cc

@@ -5,10 +5,11 @@ use Rattle.std.specs.List.{list_all}
 use Rattle.std.specs.Option.{ok_or}
 use Rattle.std.proofs.lemmas.Bool.{and_parts, and_from, lt-ltb, le-leb}
 use Rattle.std.proofs.lemmas.List.{length-append}
+use Rattle.osl_value.specs.Types.{slot_count}
 use Rattle.oso_code.specs.declared.symbol.Symbol.{Symbol}
 use Rattle.oso_code.specs.Names.{is_name}
 use Rattle.oso_code.specs.Symbols.{are_parameters, datum_fits, fits_behind, is_taken, symbol_fits}
-use Rattle.oso_code.specs.Valid.{most_symbols, most_slots, slots_of, slots_of_type}
+use Rattle.oso_code.specs.Valid.{most_symbols, most_slots, slots_of}
 use Rattle.oso_write.specs.Lines.{Line, header, meta_text, symbol_line}
 use Rattle.oso_write.specs.Words.{kind_name}
 use Rattle.oso_read.specs.declared.error.OsoKind.{OsoKind}
@@ -105,8 +106,8 @@ all_fit (s ∷ symbols) before fit few small spell =
     let len = length-append before (s ∷ []) in
     let slots = slots_more before s in (
       subst (λ (front : List Symbol). IsTrue (fits_behind front s)) (append-nil before) (fit 0 s refl),
-      and_from (nat_lt (length before) most_symbols) (nat_le (slots_of before + slots_of_type s.ty) most_slots)
-          (lt-ltb (length before) most_symbols (omega (arith, few))) (le-leb (slots_of before + slots_of_type s.ty) most_slots (omega (arith, small))),
+      and_from (nat_lt (length before) most_symbols) (nat_le (slots_of before + slot_count s.ty) most_slots)
+          (lt-ltb (length before) most_symbols (omega (arith, few))) (le-leb (slots_of before + slot_count s.ty) most_slots (omega (arith, small))),
       spells.0,
       all_fit symbols (before ++ s ∷ [])
           (λ k t is. subst (λ (front : List Symbol). IsTrue (fits_behind front t)) (sym (append_assoc before (s ∷ []) (take k symbols))) (fit (suc k) t is))

@@ -9,7 +9,7 @@ use Rattle.osl_value.specs.declared.op_name.OpName.{OpName}
 use Rattle.osl_value.specs.OpText.{name_of}
 use Rattle.oso_code.specs.declared.op.Op.{Op}
 use Rattle.oso_code.specs.declared.op.Section.{Section}
-use Rattle.oso_code.specs.declared.raw.ShaderKind.{ShaderKind}
+use Rattle.osl_value.specs.declared.shader_kind.ShaderKind.{ShaderKind}
 use Rattle.oso_code.specs.declared.symbol.Symbol.{Symbol}
 use Rattle.oso_code.specs.Ops.{op_fits}
 use Rattle.oso_code.specs.Sections.{owner_fits}

@@ -11,7 +11,7 @@ use Rattle.osl_value.specs.declared.types.Ty.{Ty}
 use Rattle.osl_value.specs.Numbers.{IsInRange}
 use Rattle.osl_value.specs.Plain.{IsNumberOf}
 use Rattle.osl_value.specs.Types.{number_count, text_count}
-use Rattle.oso_code.specs.declared.raw.ShaderKind.{ShaderKind}
+use Rattle.osl_value.specs.declared.shader_kind.ShaderKind.{ShaderKind}
 use Rattle.oso_code.specs.declared.symbol.Meta.{Meta}
 use Rattle.oso_code.specs.Holding.{is_type, fits_int, fits_float, fits_base, makes_up}
 use Rattle.oso_code.specs.Names.{is_name}

@@ -6,9 +6,10 @@ use Rattle.std.proofs.lemmas.Bool.{cases_lt, and_parts, ltb-true, leb-true}
 use Rattle.std.proofs.lemmas.List.{length-append, take-append-le}
 use Rattle.std.proofs.lemmas.Option.{slice_get_within}
 use Rattle.std.proofs.Math.Seq.{take-append_seam}
+use Rattle.osl_value.specs.Types.{slot_count}
 use Rattle.oso_code.specs.declared.symbol.Symbol.{Symbol}
 use Rattle.oso_code.specs.Symbols.{fits_behind, symbol_at_fits}
-use Rattle.oso_code.specs.Valid.{most_symbols, most_slots, slots_of, slots_of_type}
+use Rattle.oso_code.specs.Valid.{most_symbols, most_slots, slots_of}
 use Rattle.oso_read.specs.declared.error.OsoKind.TheVariants as kinds
 use Rattle.oso_read.specs.Faults.{Fault, ◌>>=◌, at_line, holding}
 use Rattle.oso_read.specs.Text.{Numbered}
@@ -50,7 +51,7 @@ each_of_more P xs y before last k x is =
     let same = some_of y x (sym (get_seam xs y) ∙ ap (slice_get (xs ++ y ∷ [])) (sym e) ∙ is) in
     subst (λ n. P n x) (sym e) (subst (P (length xs)) same last)) (cases_lt k (length xs))
 
-pub slots_more : (symbols : List Symbol) (symbol : Symbol) → slots_of (symbols ++ symbol ∷ []) ≡ slots_of symbols + slots_of_type symbol.ty
+pub slots_more : (symbols : List Symbol) (symbol : Symbol) → slots_of (symbols ++ symbol ∷ []) ≡ slots_of symbols + slot_count symbol.ty
 slots_more [] symbol = omega arith
 slots_more (s ∷ symbols) symbol = let h = slots_more symbols symbol in omega (arith, h)
 
@@ -58,9 +59,9 @@ slots_more (s ∷ symbols) symbol = let h = slots_more symbols symbol in omega (
 
 one_more : (before : List Symbol) (symbol : Symbol) → AreSymbols before → IsTrue (fits_behind before symbol) → IsTrue (has_room before symbol.ty) → AreSymbols (before ++ symbol ∷ [])
 one_more before symbol are fits room =
-    let rooms = and_parts (nat_lt (length before) most_symbols) (nat_le (slots_of before + slots_of_type symbol.ty) most_slots) room in
+    let rooms = and_parts (nat_lt (length before) most_symbols) (nat_le (slots_of before + slot_count symbol.ty) most_slots) room in
     let few = ltb-true (length before) most_symbols rooms.0 in
-    let small = leb-true (slots_of before + slots_of_type symbol.ty) most_slots rooms.1 in
+    let small = leb-true (slots_of before + slot_count symbol.ty) most_slots rooms.1 in
     let len = length-append before (symbol ∷ []) in
     let slots = slots_more before symbol in
     record {

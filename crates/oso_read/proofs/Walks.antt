@@ -1,7 +1,7 @@
 -- The symbols and the body, line by line, as loops read them.
 use Rattle.std.proofs.Common.{◌≡◌, ℕ, true, false, cond, List, ◌∷◌, Option, Some, None, Ok, Err, refl, sym, ap, ◌∙◌, subst}
 use Rattle.std.specs.Prelude.{Result}
-use Rattle.oso_code.specs.declared.raw.ShaderKind.{ShaderKind}
+use Rattle.osl_value.specs.declared.shader_kind.ShaderKind.{ShaderKind}
 use Rattle.oso_code.specs.declared.symbol.Symbol.{Symbol}
 use Rattle.oso_write.specs.Lines.{Line}
 use Rattle.oso_read.specs.declared.error.OsoKind.{OsoKind}

@@ -9,7 +9,7 @@ use Rattle.osl_value.specs.OpText.{name_of}
 use Rattle.oso_code.specs.declared.op.Op.{Op}
 use Rattle.oso_code.specs.declared.op.Section.{Section}
 use Rattle.oso_code.specs.declared.raw.Raw.{Raw}
-use Rattle.oso_code.specs.declared.raw.ShaderKind.{ShaderKind}
+use Rattle.osl_value.specs.declared.shader_kind.ShaderKind.{ShaderKind}
 use Rattle.oso_code.specs.declared.symbol.Symbol.{Symbol}
 use Rattle.oso_code.specs.Faults.{least, misfits}
 use Rattle.oso_code.specs.Names.{main_name}

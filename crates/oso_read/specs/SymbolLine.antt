@@ -5,8 +5,8 @@ use Rattle.osl_value.specs.declared.types.Base.TheVariants.{Closure}
 use Rattle.osl_value.specs.declared.types.Ty.{Ty}
 use Rattle.osl_value.specs.Plain.{Plain}
 use Rattle.osl_value.specs.Types.{only}
-use Rattle.oso_code.specs.declared.raw.ShaderKind.{ShaderKind}
-use Rattle.oso_code.specs.declared.raw.ShaderKind.TheVariants as kinds
+use Rattle.osl_value.specs.declared.shader_kind.ShaderKind.{ShaderKind}
+use Rattle.osl_value.specs.declared.shader_kind.ShaderKind.TheVariants as kinds
 use Rattle.oso_code.specs.declared.symbol.Class.{Class}
 use Rattle.oso_code.specs.declared.symbol.Class.TheVariants as classes
 use Rattle.oso_code.specs.declared.symbol.Meta.{Meta}

@@ -8,11 +8,11 @@ use crate::hints::Said;
 use crate::op_line::{code_at, op_at};
 use crate::owner::{may_follow, op_of, owner_named};
 use crate::table::Table;
-use osl_value::Memory;
+use osl_value::{Memory, ShaderKind};
 use oso_code::checks::limits::MOST_OPS;
 use oso_code::checks::ops::op_fits;
 use oso_code::checks::sections::owner_fits;
-use oso_code::{Op, Section, ShaderKind};
+use oso_code::{Op, Section};
 use std::alloc::Global;
 
 /// A section that has begun: its owner, none for the body, and the number of its first op.

@@ -25,7 +25,7 @@ use crate::op_line::is_end;
 use crate::reader::Reader;
 use crate::symbol_line::{HeadLine, head_at, symbol_at};
 use crate::table::Table;
-use oso_code::ShaderKind;
+use osl_value::ShaderKind;
 use std::alloc::Global;
 
 /// A fault of a line.

@@ -16,9 +16,9 @@ use crate::op_line::only_word;
 use crate::types::type_at;
 use crate::unread::Unread;
 use crate::values::{meta_at, name_at, value_at};
-use osl_value::{Base, Text, Ty, Value};
+use osl_value::{Base, ShaderKind, Text, Ty, Value};
 use oso_code::holding::is_closure;
-use oso_code::{Class, ListOf, Meta, ShaderKind, Symbol};
+use oso_code::{Class, ListOf, Meta, Symbol};
 use oso_write::{class_name, kind_name};
 use std::alloc::Global;
 

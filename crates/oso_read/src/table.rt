@@ -9,7 +9,7 @@ use crate::error::OsoKind;
 use crate::fault::LineFault;
 use crate::name_table::NameTable;
 use osl_value::Ty;
-use oso_code::checks::limits::{MOST_SLOTS, MOST_SYMBOLS, slots_of_type};
+use oso_code::checks::limits::{MOST_SLOTS, MOST_SYMBOLS};
 use oso_code::checks::symbols::symbol_fits;
 use oso_code::{Class, Symbol};
 use std::alloc::Global;
@@ -57,7 +57,7 @@ impl Table {
     fn has_room(&self, ty: Ty) -> bool
         ensures { result ≡ has_room self.now.symbols.items ty }
     {
-        self.symbols.len() < MOST_SYMBOLS && self.slots + slots_of_type(ty) <= MOST_SLOTS
+        self.symbols.len() < MOST_SYMBOLS && self.slots + ty.slot_count() <= MOST_SLOTS
     }
 
     /// Whether no symbol has the name.
@@ -91,7 +91,7 @@ impl Table {
         if !self.has_room(symbol.ty) {
             return Err(LineFault::Kind(OsoKind::Limit));
         }
-        let slots = self.slots + slots_of_type(symbol.ty);
+        let slots = self.slots + symbol.ty.slot_count();
         let leading = self.leads(symbol.class);
         let Table {
             mut symbols,

@@ -1,7 +1,7 @@
 //! From tables to shaders.
 
-use osl_value::{Base, Memory, OpName, Text, Ty, Value};
-use oso_code::{Class, ListOf, Op, Raw, Section, Shader, ShaderKind, Symbol, validate};
+use osl_value::{Base, Memory, OpName, ShaderKind, Text, Ty, Value};
+use oso_code::{Class, ListOf, Op, Raw, Section, Shader, Symbol, validate};
 use std::alloc::Global;
 
 /// A value: its base type, its array's length, and its numbers (an int as itself, a float as its units) or its strings.

@@ -5,7 +5,7 @@ use Rattle.osl_decimal.specs.Canonical.{magnitude_text, fraction_text}
 use Rattle.osl_value.specs.declared.types.Base.TheVariants.{Float}
 use Rattle.osl_value.specs.Types.{only}
 use Rattle.oso_code.specs.declared.raw.Raw.{Raw}
-use Rattle.oso_code.specs.declared.raw.ShaderKind.TheVariants.{Shader}
+use Rattle.osl_value.specs.declared.shader_kind.ShaderKind.TheVariants.{Shader}
 use Rattle.oso_code.specs.declared.symbol.Class.TheVariants.{Oparam}
 use Rattle.oso_write.specs.Canon.{canon}
 

@@ -7,8 +7,8 @@ use Rattle.osl_value.specs.declared.types.Base.TheVariants.{Int, Float, Color, P
 use Rattle.osl_value.specs.declared.types.Ty.{Ty}
 use Rattle.osl_value.specs.Types.{base_name, same_base}
 use Rattle.osl_decimal.specs.Canonical.{int_text, fx_text}
-use Rattle.oso_code.specs.declared.raw.ShaderKind.{ShaderKind}
-use Rattle.oso_code.specs.declared.raw.ShaderKind.TheVariants as kinds
+use Rattle.osl_value.specs.declared.shader_kind.ShaderKind.{ShaderKind}
+use Rattle.osl_value.specs.declared.shader_kind.ShaderKind.TheVariants as kinds
 use Rattle.oso_code.specs.declared.symbol.Class.{Class}
 use Rattle.oso_code.specs.declared.symbol.Class.TheVariants as classes
 

@@ -8,8 +8,8 @@ ghost use Rattle.oso_write.specs.Words.{kind_name, class_name, len_text, type_te
 
 use itoa::Buffer;
 use osl_decimal::{write_fx, write_int};
-use osl_value::{Base, Fx, Memory, Ty};
-use oso_code::{Class, ShaderKind};
+use osl_value::{Base, Fx, Memory, ShaderKind, Ty};
+use oso_code::Class;
 
 /// The name of a kind in the text of code.
 pub fn kind_name(kind: ShaderKind) -> &'static [u8]

@@ -23,9 +23,8 @@ mod stmts;
 
 use super::Shape;
 use osl_overload::{Formal, Kind};
-use osl_tree::tree::ShaderKind;
 use osl_typed::{TypedDatum, TypedFunction, TypedParam, TypedShader};
-use osl_value::Memory;
+use osl_value::{Memory, ShaderKind};
 
 /// The word of a shader's kind.
 fn kind_word(kind: ShaderKind) -> &'static str {
@@ -33,7 +32,7 @@ fn kind_word(kind: ShaderKind) -> &'static str {
         ShaderKind::Surface => "surface",
         ShaderKind::Displacement => "displacement",
         ShaderKind::Volume => "volume",
-        ShaderKind::Generic => "shader",
+        ShaderKind::Shader => "shader",
     }
 }
 

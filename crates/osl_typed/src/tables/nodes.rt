@@ -1,6 +1,6 @@
 //! Nodes by their kinds, variables and parts.
 
-ghost use Rattle.std.specs.Prelude.{◌≡◌, ◌<◌, ◌^◌, min, length};
+ghost use Rattle.std.specs.Prelude.{◌≡◌, min, length};
 ghost use Rattle.osl_typed.specs.Frames.{leaves_of, leaves_with, leaves_below};
 ghost use Rattle.osl_typed.specs.Measured.{cut, size_top, shortened, IsLeafTable};
 ghost use Rattle.osl_typed.specs.Sizes as spec;
@@ -9,21 +9,6 @@ use crate::shader::TypedStructure;
 use crate::sizes::{Leaves, SIZE_TOP, SLOTS_TOP, Weight, stopped};
 use crate::tables::Tables;
 use osl_overload::Kind;
-use osl_value::{Base, Ty};
-
-/// The slots of a value of a type.
-pub(crate) fn type_slots(ty: Ty) -> u64
-    ensures value { result ≡ spec.type_slots ty }
-    ensures small { result < 2 ^ 40 }
-{
-    let in_element: u64 = match ty.base {
-        Base::Int | Base::Float | Base::Closure => 1,
-        Base::Color | Base::Point | Base::Vector | Base::Normal => 3,
-        Base::Matrix => 16,
-        Base::Str => 32,
-    };
-    ty.element_count() as u64 * in_element
-}
 
 /// The leaves of a kind, by the table of the first structures.
 pub(crate) fn leaves_in(structures: &[TypedStructure], table: &[Leaves], kind: Kind) -> Leaves
@@ -34,7 +19,7 @@ pub(crate) fn leaves_in(structures: &[TypedStructure], table: &[Leaves], kind: K
     match kind {
         Kind::Value(ty) => Leaves {
             count: 1,
-            slots: stopped(type_slots(ty), SLOTS_TOP),
+            slots: stopped(ty.slot_count(), SLOTS_TOP),
         },
         Kind::Structure(m) => match table.get(m as usize) {
             Some(leaves) => *leaves,

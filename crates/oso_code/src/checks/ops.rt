@@ -8,10 +8,9 @@ ghost use Rattle.oso_code.specs.Ops.{is_conditional, range_count, takes_conditio
 use crate::checks::allowed::is_allowed;
 use crate::checks::form::{is_only, type_at};
 use crate::op::Op;
-use crate::raw::ShaderKind;
 use crate::symbol::{Class, Symbol};
 use osl_layer::GlobalName;
-use osl_value::{Base, OpName};
+use osl_value::{Base, OpName, ShaderKind};
 
 /// Whether it is a control operation that reads a condition.
 pub fn is_conditional(name: OpName) -> bool

@@ -2,8 +2,8 @@
 
 use super::{Named, flaw_of, named};
 use crate::code::{Line, Part, body, code, op, ops, sections};
-use osl_value::{Base, Memory, OpName};
-use oso_code::{Class, FlawKind, Raw, ShaderKind, Symbol};
+use osl_value::{Base, Memory, OpName, ShaderKind};
+use oso_code::{Class, FlawKind, Raw, Symbol};
 use std::alloc::Global;
 use std::test::Fail;
 

@@ -25,8 +25,8 @@ invariant_of-result c =
     let slots = ap slots_of items ∙ slots_more symbols symbol in
     record {
       named = names_more symbols symbol c.args.self.names c.push.new.self c.bytes.result.now c.args.self.named c.in_ok-push.ensures c.bytes.ensures.value ∙ ap names_of (sym items);
-      counted = omega (arith, slots, c.slots_of_type.ensures.value, c.args.self.counted);
+      counted = omega (arith, slots, c.slot_count.ensures.value, c.args.self.counted);
       few = omega (arith, room.0, c.push-2.ensures.len);
-      small = omega (arith, room.1, c.slots_of_type.ensures.value, c.args.self.counted);
+      small = omega (arith, room.1, c.slot_count.ensures.value, c.args.self.counted);
       leads = c.leads-leading.ensures ∙ sym (leads_more symbols symbol) ∙ ap are_parameters (sym items);
     }

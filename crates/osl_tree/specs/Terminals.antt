@@ -1,11 +1,11 @@
--- What marks and reserved words stand for.
+-- What terminals stand for.
 use Rattle.std.specs.Prelude.{ℕ, Option, Some, None}
 use Rattle.osl_tree.specs.declared.token.Punct.{Punct}
 use Rattle.osl_tree.specs.declared.token.Punct.TheVariants as p
-use Rattle.osl_tree.specs.declared.mark.Keyword.{Keyword}
-use Rattle.osl_tree.specs.declared.mark.Keyword.TheVariants as w
-use Rattle.osl_tree.specs.declared.mark.Mark.{Mark}
-use Rattle.osl_tree.specs.declared.mark.Mark.TheVariants as m
+use Rattle.osl_tree.specs.declared.terminal.Keyword.{Keyword}
+use Rattle.osl_tree.specs.declared.terminal.Keyword.TheVariants as w
+use Rattle.osl_tree.specs.declared.terminal.Terminal.{Terminal}
+use Rattle.osl_tree.specs.declared.terminal.Terminal.TheVariants as m
 use Rattle.osl_tree.specs.Lexeme.{Lexeme}
 use Rattle.osl_tree.specs.Lexeme as l
 use Rattle.osl_tree.specs.declared.expr.BaseType.{BaseType}
@@ -18,18 +18,18 @@ use Rattle.osl_tree.specs.declared.expr.BinaryOp.{BinaryOp}
 use Rattle.osl_tree.specs.declared.expr.BinaryOp.TheVariants as binaries
 use Rattle.osl_tree.specs.declared.expr.AssignOp.{AssignOp}
 use Rattle.osl_tree.specs.declared.expr.AssignOp.TheVariants as assigns
-use Rattle.osl_tree.specs.declared.tree.ShaderKind.{ShaderKind}
-use Rattle.osl_tree.specs.declared.tree.ShaderKind.TheVariants as shaders
+use Rattle.osl_value.specs.declared.shader_kind.ShaderKind.{ShaderKind}
+use Rattle.osl_value.specs.declared.shader_kind.ShaderKind.TheVariants as shaders
 
--- a mark, and a reserved word, as a token
+-- a punctuation mark, and a keyword, as a token
 abbrev pub sign : Punct → Lexeme
-sign mark = l.mark (m.Punct mark)
+sign mark = l.terminal (m.Punct mark)
 
 abbrev pub key : Keyword → Lexeme
-key word = l.mark (m.Keyword word)
+key word = l.terminal (m.Keyword word)
 
 -- the types of one word
-abbrev pub base_of : Mark → Option BaseType
+abbrev pub base_of : Terminal → Option BaseType
 base_of (m.Keyword w.Int) = Some bases.Int
 base_of (m.Keyword w.Float) = Some bases.Float
 base_of (m.Keyword w.Color) = Some bases.Color
@@ -41,7 +41,7 @@ base_of (m.Keyword w.Str) = Some bases.Str
 base_of (m.Keyword _) = None
 base_of (m.Punct _) = None
 
-abbrev pub prefix_of : Mark → Option PrefixOp
+abbrev pub prefix_of : Terminal → Option PrefixOp
 prefix_of (m.Punct p.Minus) = Some prefixes.Minus
 prefix_of (m.Punct p.Plus) = Some prefixes.Plus
 prefix_of (m.Punct p.Tilde) = Some prefixes.Complement
@@ -52,13 +52,13 @@ prefix_of (m.Punct p.Decrement) = Some prefixes.Decrement
 prefix_of (m.Punct _) = None
 prefix_of (m.Keyword _) = None
 
-abbrev pub postfix_of : Mark → Option PostfixOp
+abbrev pub postfix_of : Terminal → Option PostfixOp
 postfix_of (m.Punct p.Increment) = Some postfixes.Increment
 postfix_of (m.Punct p.Decrement) = Some postfixes.Decrement
 postfix_of (m.Punct _) = None
 postfix_of (m.Keyword _) = None
 
-abbrev pub binary_of : Mark → Option BinaryOp
+abbrev pub binary_of : Terminal → Option BinaryOp
 binary_of (m.Punct p.OrOr) = Some binaries.Or
 binary_of (m.Keyword w.Or) = Some binaries.Or
 binary_of (m.Punct p.AndAnd) = Some binaries.And
@@ -103,7 +103,7 @@ level binaries.Multiply = 11
 level binaries.Divide = 11
 level binaries.Remainder = 11
 
-abbrev pub assign_of : Mark → Option AssignOp
+abbrev pub assign_of : Terminal → Option AssignOp
 assign_of (m.Punct p.Assign) = Some assigns.Set
 assign_of (m.Punct p.PlusAssign) = Some assigns.Add
 assign_of (m.Punct p.MinusAssign) = Some assigns.Subtract
@@ -117,10 +117,10 @@ assign_of (m.Punct p.XorAssign) = Some assigns.BitXor
 assign_of (m.Punct _) = None
 assign_of (m.Keyword _) = None
 
-abbrev pub kind_of : Mark → Option ShaderKind
+abbrev pub kind_of : Terminal → Option ShaderKind
 kind_of (m.Keyword w.Surface) = Some shaders.Surface
 kind_of (m.Keyword w.Displacement) = Some shaders.Displacement
 kind_of (m.Keyword w.Volume) = Some shaders.Volume
-kind_of (m.Keyword w.Shader) = Some shaders.Generic
+kind_of (m.Keyword w.Shader) = Some shaders.Shader
 kind_of (m.Keyword _) = None
 kind_of (m.Punct _) = None

@@ -1,8 +1,8 @@
-//! Marks and reserved words.
+//! Terminals of the grammar: punctuation marks and keywords.
 
 ghost use Rattle.std.specs.Prelude.{◌≡◌};
 ghost use Rattle.osl_tree.specs.Lexemes.{word_of, reserved};
-ghost use Rattle.osl_tree.specs.Parser.{same_mark};
+ghost use Rattle.osl_tree.specs.Parser.{same_terminal};
 
 use crate::token::Punct;
 
@@ -39,9 +39,9 @@ pub enum Keyword {
     Or,
 }
 
-/// What the grammar quotes: a mark or a reserved word.
+/// A terminal of the grammar: a punctuation mark or a keyword, which is a reserved word.
 #[derive(Clone, Copy, Debug, PartialEq, Eq)]
-pub enum Mark {
+pub enum Terminal {
     Punct(Punct),
     Keyword(Keyword),
 }
@@ -125,15 +125,15 @@ impl Keyword {
     }
 }
 
-impl Mark {
+impl Terminal {
     /// Whether the two are the same.
-    #[tactic(auto, unfolding(crate::specs::Parser::same_mark))]
-    pub fn is(self, other: Mark) -> bool
-        ensures { result ≡ same_mark self other }
+    #[tactic(auto, unfolding(crate::specs::Parser::same_terminal))]
+    pub fn is(self, other: Terminal) -> bool
+        ensures { result ≡ same_terminal self other }
     {
         match (self, other) {
-            (Mark::Punct(one), Mark::Punct(two)) => one == two,
-            (Mark::Keyword(one), Mark::Keyword(two)) => one == two,
+            (Terminal::Punct(one), Terminal::Punct(two)) => one == two,
+            (Terminal::Keyword(one), Terminal::Keyword(two)) => one == two,
             _ => false,
         }
     }

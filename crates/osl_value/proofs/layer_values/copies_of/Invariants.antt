@@ -1,0 +1,6 @@
+-- The copies so far are the first ones.
+use Rattle.std.proofs.Common.{◌≡◌, take}
+use Rattle.osl_value.proofs.layer_values.copies_of.Given as goal
+
+abbrev pub invariant-loop-value : goal.invariant-loop-value
+invariant-loop-value l = l.copies.items ≡ take l.value-index l.values
