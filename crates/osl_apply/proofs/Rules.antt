@@ -41,7 +41,7 @@ row_other row ty types apart h =
 row_other_value : (row : Row) (ty : Ty) (args : List AnyValue) → IsOther row ty (map type_of args) → row_value row ty args ≡ first_value ty args row.others
 row_other_value row ty args apart = cond-false _ _ _ apart.no_ints ∙ cond-false _ _ _ apart.no_floats
 
--- ---- the first rule, or one behind it
+-- ---- the first rule, or one after it
 
 pub record Applied (op : OpName) (ty : Ty) (args : List AnyValue) (rule : Rule) : Type 0 where
   pub takes : takes_other ty (map type_of args) rule ≡ true

@@ -23,7 +23,7 @@ use std::alloc::Global;
 /// values of `sources`, as the type of what it held. The other slots stay.
 ///
 /// # Errors
-/// `Memory` where memory is refused; strings, whole arrays and closures take some, and the first write to a matrix or an
+/// `Memory` where an allocation fails; strings, whole arrays and closures take some, and the first write to a matrix or an
 /// array that was lent.
 pub fn execute<'a>(
     alloc: Global,

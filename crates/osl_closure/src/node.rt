@@ -114,7 +114,7 @@ pub fn add<'a>(arena: &'a Bump, a: Node<'a>, b: Node<'a>) -> Result<Node<'a>, Me
     }
 }
 
-/// The parts of `a`, each weight multiplied by `by`, which stands on the left on each channel.
+/// The parts of `a`, each weight multiplied by `by`, which is on the left on each channel.
 pub fn scale<'a>(arena: &'a Bump, by: [Fx; 3], a: Node<'a>) -> Result<Node<'a>, Memory>
     ensures { IfOk result (λ node. node ≡ weighted by a.entry) }
 {

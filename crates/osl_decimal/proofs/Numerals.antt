@@ -46,7 +46,7 @@ value_after_more n ds i within = ap (digits_value_after 10 n) (take_more ds i 0 
 front_step : (n v p w : ℕ) → (n * 10 + v) * p + w ≡ n * (p * 10) + ((0 * 10 + v) * p + w)
 front_step n v p w = omega arith
 
--- a number in front counts in tens for each digit behind it
+-- a number in front counts in tens for each digit after it
 pub value_after_is : (n : ℕ) (ds : List ℕ) → digits_value_after 10 n ds ≡ n * 10 ^ length ds + digits_value 10 ds
 value_after_is n [] = omega arith
 value_after_is n (d ∷ ds) =

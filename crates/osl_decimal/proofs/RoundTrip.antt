@@ -110,7 +110,7 @@ before_point front back none = ap (λ i. take i (front ++ 46 ∷ back)) (point_p
 after_point : (front back : List ℕ) → list_any is_point front ≡ false → after_first is_point (front ++ 46 ∷ back) ≡ back
 after_point front back none = ap (λ i. drop (i + 1) (front ++ 46 ∷ back)) (point_place front back none) ∙ drop-append-add front (46 ∷ back) 1
 
--- ---- the parts of digits, and of digits round a point
+-- ---- the parts of digits, and of digits around a point
 
 pub mantissa-all : (text : List ℕ) → list_any begins_exponent text ≡ false → mantissa text ≡ text
 unfolding mantissa

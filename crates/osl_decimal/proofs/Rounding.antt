@@ -35,7 +35,7 @@ nearest-down whole digit low p most h =
 
 -- ---- digits whose point moves
 
--- Without a point the digits write n, and there are `count`. Their point moves up by `up` places and down by `down`, to behind the digit number `kept`.
+-- Without a point the digits write n, and there are `count`. Their point moves up by `up` places and down by `down`, to after the digit number `kept`.
 pub moved_up : (n count up down kept : ℕ) → kept + down ≡ count + up → count ≤ kept → nearest (n * 10 ^ up) (10 ^ down) ≡ n * 10 ^ (kept - count)
 moved_up n count up down kept moved enough =
     let split : 10 ^ up ≡ 10 ^ (kept - count) * 10 ^ down = ap (λ k. 10 ^ k) (omega arith) ∙ pow-add 10 (kept - count) down in

@@ -20,7 +20,7 @@ last_above : (c : ℕ) (ds : List ℕ) → (ds ≡ [] → c ≢ 48) → last ds 
 last_above c [] alone ends = λ zero_last. alone refl (sym (last-one c) ∙ zero_last)
 last_above c (d ∷ ds) alone ends = λ zero_last. ends (sym (last-more c d ds) ∙ zero_last)
 
--- no zero stands at the end of the decimals
+-- no zero is at the end of the decimals
 last-places : (k fraction : ℕ) → fraction < 10 ^ k → last (places k fraction) ≢ 48
 last-places zero fraction small = last-none
 last-places (suc k) fraction small =

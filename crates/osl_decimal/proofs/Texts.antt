@@ -10,7 +10,7 @@ pub magnitude_text_is : (units : ℕ) → decimal (units / scale) ++ fraction_te
 unfolding magnitude_text
 magnitude_text_is units = refl
 
--- at most ten digits stand before the point
+-- at most ten digits are before the point
 pub length-whole-le : (units : ℕ) → units ≤ fmax → length (decimal (units / scale)) ≤ 10
 length-whole-le units small = length-decimal-le 10 (units / scale) (omega arith) (omega arith) (omega arith)
 

@@ -20,7 +20,7 @@ all_digits text = whole text ++ decimals text
 abbrev size : List ℕ → ℕ
 size text = digits_value 10 (exponent_digits text)
 
--- a unit is nine places behind the point
+-- a unit is nine places after the point
 units_by_places : (text : List ℕ) → decimal_units text ≡ nearest (digits_value 10 (all_digits text) * 10 ^ (raising text + 9)) (10 ^ (length (decimals text) + lowering text))
 unfolding decimal_units numerator denominator
 units_by_places text =
@@ -43,7 +43,7 @@ units-away text digits minus far =
     units_by_places text
     ∙ moved_away (all_digits text) (raising text + 9) (length (decimals text) + lowering text) digits (omega (arith, shift.0, shift.1, length-append (whole text) (decimals text)))
 
--- so many digits stand before the point once it has moved
+-- so many digits are before the point once it has moved
 abbrev pub StandBefore : List ℕ → ℕ → Type 0
 StandBefore text kept = MatchBool (has_minus (exponent text)) (kept + size text ≡ length (whole text) + 9) (kept ≡ min (length (whole text) + 9 + size text) (2 ^ 64 - 1))
 
@@ -76,7 +76,7 @@ units_with_zeros text kept moved enough =
     units_by_places text
     ∙ moved_up (digits_value 10 (all_digits text)) (length (all_digits text)) (raising text + 9) (length (decimals text) + lowering text) kept (omega (arith, length-append (whole text) (decimals text))) enough
 
--- where the exponent is so large that the place stands at the top
+-- where the exponent is so large that the place is at the top
 units-stopped : (text : List ℕ) (kept : ℕ) → StandBefore text kept → 2 ^ 64 - 1 ≤ kept → length (all_digits text) < 2 ^ 63
     → min (digits_value 10 (all_digits text) * 10 ^ (kept - length (all_digits text))) (2 ^ 64 - 1) ≡ min (decimal_units text) (2 ^ 64 - 1)
 units-stopped text kept stand large short =
@@ -122,7 +122,7 @@ pub parts-away : (text : List ℕ) (parts : Decimal) → HasParts text parts →
 parts-away text parts has minus far =
     units-away text (digits_together text parts has) (sym has.divides_is ∙ minus) (rw (has.whole_is, has.exponent_is) at far)
 
--- so many digits stand before the point once it has moved
+-- so many digits are before the point once it has moved
 abbrev pub StandsAt : Decimal → ℕ → Type 0
 StandsAt parts kept = MatchBool parts.divides (kept + digits_value 10 parts.exponent.now ≡ length parts.whole.now + 9) (kept ≡ min (length parts.whole.now + 9 + digits_value 10 parts.exponent.now) (2 ^ 64 - 1))
 

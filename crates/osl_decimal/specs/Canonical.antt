@@ -13,7 +13,7 @@ abbrev pub places : ℕ → ℕ → List ℕ
 places zero fraction = []
 places (suc k) fraction = if fraction == 0 then [] else (48 + fraction / 10 ^ k) ∷ places k (fraction % 10 ^ k)
 
--- a fraction of nine places behind its point, or nothing
+-- a fraction of nine places after its point, or nothing
 unfoldable pub fraction_text : ℕ → List ℕ
 fraction_text fraction = if fraction == 0 then [] else 46 ∷ places 9 fraction
 
@@ -46,7 +46,7 @@ pub record IsCanonicalDecimal (text : List ℕ) : Type 0 where
   pub at_most_nine : length (decimals text) ≤ 9
   pub no_last_zero : slice_index (decimals text) (length (decimals text) - 1) ≢ 48
 
--- the same behind an optional minus, and `0` for zero
+-- the same after an optional minus, and `0` for zero
 pub record IsCanonicalFx (text : List ℕ) : Type 0 where
   pub magnitude : IsCanonicalDecimal (without_minus text)
   pub no_minus_at_zero : has_minus text ≡ true → 0 < decimal_units (without_minus text)

@@ -44,7 +44,7 @@ whole text = before_first is_point (mantissa text)
 unfoldable pub decimals : List ℕ → List ℕ
 decimals text = after_first is_point (mantissa text)
 
--- the exponent behind its `e`, with its sign
+-- the exponent after its `e`, with its sign
 unfoldable pub exponent : List ℕ → List ℕ
 exponent text = after_first begins_exponent text
 
@@ -85,7 +85,7 @@ decimal_units text = nearest (numerator text * scale) (denominator text)
 abbrev pub signed : Bool → ℕ → ℤ
 signed minus n = if minus then neg_ℤ (pos n) else pos n
 
--- The float that a text writes, a decimal behind an optional minus, rounded half away from zero: none where the text is not of that form, or where the units pass the largest.
+-- The float that a text writes, a decimal after an optional minus, rounded half away from zero: none where the text is not of that form, or where the units pass the largest.
 unfoldable pub fx_of : List ℕ → Option ℤ
 fx_of text =
     let magnitude = without_minus text in
@@ -97,7 +97,7 @@ fx_of text =
 abbrev pub int_limit : Bool → ℕ
 int_limit minus = if minus then 2 ^ 31 else 2 ^ 31 - 1
 
--- The int that a text writes, digits behind an optional minus: none where the text is not of that form, or where the int would need more than 32 bits.
+-- The int that a text writes, digits after an optional minus: none where the text is not of that form, or where the int would need more than 32 bits.
 unfoldable pub int_of : List ℕ → Option ℤ
 int_of text =
     let magnitude = without_minus text in

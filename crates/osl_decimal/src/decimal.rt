@@ -33,7 +33,7 @@ fn exponent_place(text: &[u8]) -> Option<usize>
     text.iter().position(|byte| *byte == b'e' || *byte == b'E')
 }
 
-/// What stands before the point, and what behind it.
+/// What is before the point, and what after it.
 fn split_point(text: &[u8]) -> (&[u8], &[u8])
     ensures before { result.0.now ≡ before_first is_point text.now }
     ensures after { result.1.now ≡ after_first is_point text.now }
@@ -44,7 +44,7 @@ fn split_point(text: &[u8]) -> (&[u8], &[u8])
     }
 }
 
-/// What stands before an exponent, and the exponent behind its `e`.
+/// What is before an exponent, and the exponent after its `e`.
 fn split_exponent(text: &[u8]) -> (&[u8], Option<&[u8]>)
     ensures before { result.0.now ≡ mantissa text.now }
     ensures after { MatchOption result.1
@@ -64,7 +64,7 @@ fn are_numeral(whole: &[u8], decimals: &[u8]) -> bool
     (!whole.is_empty() || !decimals.is_empty()) && are_digits(whole) && are_digits(decimals)
 }
 
-/// Whether an exponent has a minus, and what stands behind its sign.
+/// Whether an exponent has a minus, and what is after its sign.
 fn split_sign(text: &[u8]) -> (bool, &[u8])
     ensures minus { result.0 ≡ has_minus text.now }
     ensures digits { result.1.now ≡ without_sign text.now }
@@ -112,7 +112,7 @@ impl<'a> Decimal<'a> {
     /// The number of units nearest to the value, or `u64::MAX` where there are more.
     ///
     /// Nine places and the exponent move the point. The digits before it are whole units, the first
-    /// behind it rounds, and where digits are missing zeros stand for them.
+    /// after it rounds, and where digits are missing zeros stand for them.
     pub(crate) fn units(&self) -> u64
         ensures { (text : List ℕ) → HasParts text self.now
             → result ≡ min (decimal_units text) (2 ^ 64 - 1) }
@@ -131,7 +131,7 @@ impl<'a> Decimal<'a> {
         }
     }
 
-    /// How many digits stand before the point, once it has moved: none before the first digit.
+    /// How many digits are before the point, once it has moved: none before the first digit.
     fn moved_point(&self) -> Option<u64>
         ensures none { IfNone result ((self.now.divides ≡ true)
             × (length self.now.whole.now + 9 < digits_value 10 self.now.exponent.now)) }

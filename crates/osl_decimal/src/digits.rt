@@ -2,7 +2,7 @@ ghost use Rattle.std.specs.Prelude.{◌≡◌, ◌+◌, ◌-◌, ◌*◌, ◌^�
 ghost use Rattle.std.specs.Str.Parse.{digits_value_after};
 ghost use Rattle.osl_decimal.specs.Decimal.{are_digits, is_numeral, has_minus, without_minus};
 
-/// The minus in front of a text, if there is one, and what stands behind it.
+/// The minus in front of a text, if there is one, and what is after it.
 pub(crate) fn split_minus(text: &[u8]) -> (bool, &[u8])
     ensures minus { result.0 ≡ has_minus text.now }
     ensures rest { result.1.now ≡ without_minus text.now }
@@ -25,7 +25,7 @@ pub(crate) fn is_numeral(text: &[u8]) -> bool
     !text.is_empty() && are_digits(text)
 }
 
-/// The number that the digits write behind those of `number`, or `u64::MAX` where it is greater.
+/// The number that the digits write after those of `number`, or `u64::MAX` where it is greater.
 pub(crate) fn append_digits(mut number: u64, digits: &[u8]) -> u64
     requires { are_digits digits.now ≡ true }
     ensures { result ≡ min (digits_value_after 10 number digits.now) (2 ^ 64 - 1) }

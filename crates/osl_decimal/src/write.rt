@@ -75,7 +75,7 @@ impl FxText {
     }
 }
 
-/// Writes a fraction of nine places behind its point, so that it ends where the bytes end, and
+/// Writes a fraction of nine places after its point, so that it ends where the bytes end, and
 /// answers where it starts. Zeros at its end are left out, and of a fraction of 0 the point too.
 fn write_fraction(fraction: u64, bytes: &mut [u8]) -> usize
     requires below_one { fraction < scale }
@@ -101,7 +101,7 @@ fn write_fraction(fraction: u64, bytes: &mut [u8]) -> usize
     }
 }
 
-/// Writes a byte before what starts at `end`, and answers where it stands.
+/// Writes a byte before what starts at `end`, and answers where it is.
 fn put_before(byte: u8, bytes: &mut [u8], end: usize) -> usize
     requires some { 0 < end }
     requires within { end ≤ length bytes.old }

@@ -1,4 +1,4 @@
--- What one more text does to texts that stand one after another, and what two more draws do to the state.
+-- What one more text does to texts that come one after another, and what two more draws do to the state.
 use Rattle.std.proofs.Common.{◌≡◌, ℕ, ◌+◌, ◌*◌, List, ◌++◌, suc, pos, codes, ap, sym, ◌∙◌, append_assoc, add-one, arith}
 use Rattle.osl_decimal.specs.Canonical.{int_text}
 use Rattle.osl_demo.specs.Draws.{next, after, drawn}

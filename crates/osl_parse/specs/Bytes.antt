@@ -1,4 +1,4 @@
--- A byte and the text behind it, as values.
+-- A byte and the text after it, as values.
 use Rattle.std.specs.Prelude.{ℕ, List, Option, Some, None}
 use denote.Ref.{Bor}
 

@@ -6,7 +6,7 @@ use std::alloc::AllocError;
 /// Why no tree was answered.
 #[derive(Clone, Copy, Debug, PartialEq, Eq)]
 pub enum SyntaxError {
-    /// Memory was refused.
+    /// An allocation failed.
     Memory,
     /// No tree spells the tokens, or only one that is higher than 256.
     NoTree,

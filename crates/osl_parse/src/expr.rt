@@ -114,7 +114,7 @@ impl<F: Fn(Global, &mut Tokens<'_>, u32, u8) -> Result<(Expr, u32), SyntaxError>
         Ok(found)
     }
 
-    /// A name or a call, behind the name.
+    /// A name or a call, after the name.
     #[tactic(auto, unfolding(osl_tree::specs::Reading::word))]
     fn word(&self, tokens: &mut Tokens<'_>, name: Items<u8>) -> Result<(Expr, u32), SyntaxError>
         requires { Nests self.now.room (F.pre self.now.expr) (F.post self.now.expr) }
@@ -128,7 +128,7 @@ impl<F: Fn(Global, &mut Tokens<'_>, u32, u8) -> Result<(Expr, u32), SyntaxError>
         Ok((Expr::Call(name, arguments), height))
     }
 
-    /// An expression in parentheses, behind the first of them.
+    /// An expression in parentheses, after the first of them.
     #[tactic(auto, unfolding(osl_tree::specs::Reading::parenthesised))]
     fn parenthesised(&self, tokens: &mut Tokens<'_>) -> Result<(Expr, u32), SyntaxError>
         requires { Nests self.now.room (F.pre self.now.expr) (F.post self.now.expr) }
@@ -169,7 +169,7 @@ impl<F: Fn(Global, &mut Tokens<'_>, u32, u8) -> Result<(Expr, u32), SyntaxError>
         Ok((Expr::Construct(to, arguments), height))
     }
 
-    /// An element of what was found, behind the bracket.
+    /// An element of what was found, after the bracket.
     #[tactic(auto, unfolding(osl_tree::specs::Reading::index))]
     fn index(&self, tokens: &mut Tokens<'_>, found: (Expr, u32)) -> Result<(Expr, u32), SyntaxError>
         requires { Nests self.now.room (F.pre self.now.expr) (F.post self.now.expr) }
@@ -183,7 +183,7 @@ impl<F: Fn(Global, &mut Tokens<'_>, u32, u8) -> Result<(Expr, u32), SyntaxError>
         Ok((indexed, height))
     }
 
-    /// A field of what was found, behind the point.
+    /// A field of what was found, after the point.
     #[tactic(auto, unfolding(osl_tree::specs::Reading::field))]
     fn field(&self, tokens: &mut Tokens<'_>, found: (Expr, u32)) -> Result<(Expr, u32), SyntaxError>
         requires { Nests self.now.room (F.pre self.now.expr) (F.post self.now.expr) }
@@ -195,7 +195,7 @@ impl<F: Fn(Global, &mut Tokens<'_>, u32, u8) -> Result<(Expr, u32), SyntaxError>
         Ok((Expr::Field(Boxed::new(self.alloc, x)?, name), height))
     }
 
-    /// What was found, with `++` or `--` behind it.
+    /// What was found, with `++` or `--` after it.
     #[tactic(auto, unfolding(osl_tree::specs::Reading::stepped))]
     fn stepped(
         &self,
@@ -261,7 +261,7 @@ impl<F: Fn(Global, &mut Tokens<'_>, u32, u8) -> Result<(Expr, u32), SyntaxError>
         self.postfix(tokens)
     }
 
-    /// The first operand with the operators behind it that bind at least so tightly, each level joined
+    /// The first operand with the operators after it that bind at least so tightly, each level joined
     /// to the left.
     #[tactic(auto, unfolding(osl_tree::specs::Reading::climb))]
     fn climb(

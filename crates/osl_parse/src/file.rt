@@ -53,7 +53,7 @@ fn fields(alloc: Global, tokens: &mut Tokens<'_>) -> Result<(Items<Fields>, u32)
     Err(SyntaxError::NoTree)
 }
 
-/// A structure behind its first word.
+/// A structure after its first word.
 #[tactic(auto, unfolding(osl_tree::specs::FileReading::structure))]
 fn structure(
     alloc: Global,
@@ -241,7 +241,7 @@ fn params(
     trailed(alloc, tokens, room, Terminal::Punct(Punct::CloseParen))
 }
 
-/// A shader behind its kind.
+/// A shader after its kind.
 #[tactic(auto, unfolding(osl_tree::specs::FileReading::shader))]
 fn shader(
     alloc: Global,
@@ -271,7 +271,7 @@ fn shader(
     ))
 }
 
-/// Definitions, the height of the highest, and the kind of the shader behind them.
+/// Definitions, the height of the highest, and the kind of the shader after them.
 type Definitions = ((Items<Definition>, u32), ShaderKind);
 
 #[tactic(auto, unfolding(osl_tree::specs::FileReading::definitions_from))]

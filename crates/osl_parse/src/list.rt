@@ -11,7 +11,7 @@ use osl_tree::token::Punct;
 use sqlite_items::Items;
 use std::alloc::Global;
 
-/// What stands in a list with commas.
+/// What is in a list with commas.
 pub trait Listed: Sized + Drop {
     ghost use Rattle.std.specs.Prelude.{ℕ};
     ghost use Rattle.osl_tree.specs.Parser.{Parser};
@@ -48,7 +48,7 @@ pub fn list<T: Listed>(
     Err(SyntaxError::NoTree)
 }
 
-/// The same, but a comma may stand behind the last; there `close` closes the list.
+/// The same, but a comma may follow the last; there `close` closes the list.
 #[tactic(auto, unfolding(osl_tree::specs::Parser::trailed, osl_tree::specs::Parser::trailed_from))]
 pub fn trailed<T: Listed>(
     alloc: Global,

@@ -101,7 +101,7 @@ impl<F: Fn(Global, &mut Tokens<'_>, u32) -> Result<(Stmt, u32), SyntaxError>> St
         Err(SyntaxError::NoTree)
     }
 
-    /// A block behind its brace.
+    /// A block after its brace.
     #[tactic(auto, unfolding(osl_tree::specs::StatementReading::block))]
     pub fn block(&self, tokens: &mut Tokens<'_>) -> Result<(Items<Stmt>, u32), SyntaxError>
         requires { NestsStmt self.now.room (F.pre self.now.stmt) (F.post self.now.stmt) }

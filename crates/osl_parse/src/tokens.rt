@@ -42,7 +42,7 @@ impl<'a> Model for Tokens<'a> {
     ghost invariant = { λ t. LieWithin t.source.now t.rest.now };
 }
 
-/// What stands between the quotes of a string.
+/// What is between the quotes of a string.
 fn inside(text: &[u8]) -> &[u8]
     ensures { result.now ≡ lexical.inside text.now }
 {
@@ -239,7 +239,7 @@ impl<'a> Tokens<'a> {
         Some(op)
     }
 
-    /// Takes an operator that stands before its operand.
+    /// Takes an operator that comes before its operand.
     pub fn prefix(&mut self) -> Option<PrefixOp>
         ensures { spec.take_as terminals.prefix_of self.old ≡ Some (result, self.new) }
     {
@@ -248,7 +248,7 @@ impl<'a> Tokens<'a> {
         Some(op)
     }
 
-    /// Takes what goes on behind an operand.
+    /// Takes what goes on after an operand.
     pub fn suffix(&mut self) -> Option<Suffix>
         ensures { spec.take_as reading.suffix_of self.old ≡ Some (result, self.new) }
     {

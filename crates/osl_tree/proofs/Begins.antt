@@ -191,7 +191,7 @@ pub prefix_baseless : (k : Terminal) (op : PrefixOp) (ts : List Lexeme) → pref
 unfolding base_at sees
 prefix_baseless k op ts e = rw (prefix_no_base k op e, prefix_other k (m.Keyword w.Closure) op e refl) refl
 
--- no type and `)` come behind the parenthesis
+-- no type and `)` come after the parenthesis
 cast_inside : {ts : List Lexeme} → Begins true ts → closed (base_at ts) ts ≡ None
 unfolding base_at sees same_terminal
 cast_inside (at_name bytes) = refl

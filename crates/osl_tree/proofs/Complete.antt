@@ -29,7 +29,7 @@ use Rattle.osl_tree.proofs.Begins.{and_more, begins_expr, begins_postfix, some_t
 use Rattle.osl_tree.proofs.Lists.{CompleteFor, listed_complete}
 use Rattle.osl_tree.proofs.Sound.{loose}
 
--- Behind a part at a lower level than this, such a terminal would go on with it.
+-- After a part at a lower level than this, such a terminal would go on with it.
 abbrev pub binds : Terminal → ℕ
 binds (m.Punct p.Assign) = 1
 binds (m.Punct p.PlusAssign) = 1
@@ -332,7 +332,7 @@ module _ (inner : ℕ → Parser Found) (room : ℕ) (comp : Complete inner room
   unfolding postfix_from
   suffix_goes n k o x y us after s e = takes suffix_of k o us (continued inner room x (postfix_from inner room n)) s (bound (postfix_from inner room n) e refl)
 
-  -- reading comes to a part, and goes on behind it
+  -- reading comes to a part, and goes on after it
   abbrev Goes : Expr → ℕ → List Lexeme → List Lexeme → Type 0
   Goes x h ts after = (n : ℕ) × (room + 1 < n + h) × (postfix inner room ts ≡ postfix_from inner room n (x, h) after)
 

@@ -240,7 +240,7 @@ stops_before_metadata : {zs : List Datum} {a : List Lexeme} {h : ℕ} (c : List 
 stops_before_metadata c q g.none = q
 stops_before_metadata c q (g.some d) = omega arith
 
--- what may stand behind a parameter
+-- what may follow a parameter
 abbrev BehindParam : List Lexeme → Type 0
 BehindParam ts = Stops ts × (sees (m.Punct p.OpenMeta) ts ≡ false)
 

@@ -100,7 +100,7 @@ module _ {A : Type 0} (Is : A → List Lexeme → ℕ → Type 0) (top : ℕ) (o
   unfolding listed
   listed_sound ts after ys eq = all_of ts after ys (listed_from_sound (length ts) [] 1 ts after ys eq)
 
-  -- ---- with a comma behind the last
+  -- ---- with a comma after the last
 
   record Further (xs : List A) (h : ℕ) (ts : List Lexeme) (ys : List A × ℕ) (after : List Lexeme) : Type 0 where
     next : List A
@@ -227,7 +227,7 @@ module _ {A : Type 0} (Is : A → List Lexeme → ℕ → Type 0) (top : ℕ) (o
       let peak : max 1 h ≡ h = let k = listed_is_high d in omega arith in
       listed_from_complete (length (a ++ after)) [] 1 after d low long f.0 f.1 ∙ ap (λ k. Some ((xs, k), after)) peak
 
-  -- ---- with a comma behind the last
+  -- ---- with a comma after the last
 
   module _ (close : Terminal) (closes : (ts : List Lexeme) → sees close ts ≡ true → Follows ts) (other : same_terminal close (m.Punct p.Comma) ≡ false)
       (not_close : (x : A) (a : List Lexeme) (h : ℕ) (c : List Lexeme) → Is x a h → sees close (a ++ c) ≡ false) where

@@ -37,7 +37,7 @@ pub record SpeltAt (k top : ℕ) (ts : List Lexeme) (x : Found) (after : List Le
 abbrev pub Sound : (ℕ → Parser Found) → ℕ → Type 0
 Sound inner room = (k : ℕ) (ts after : List Lexeme) (x : Found) → inner k ts ≡ Some (x, after) → SpeltAt k room ts x after
 
--- where no operator has such a level, only a unary expression stands
+-- where no operator has such a level, there is only a unary expression
 pub loose : (op : BinaryOp) → level op ≤ 11
 loose binaries.Or = omega arith
 loose binaries.And = omega arith
@@ -64,7 +64,7 @@ only_unary low (g.binary j op e le d d') = absurd (omega (arith, loose op))
 only_unary low (g.choice le d d' d'') = absurd (omega arith)
 only_unary low (g.assign j op e le d d') = absurd (omega arith)
 
--- what stands at a level stands at a lower one
+-- what is at a level stands at a lower one
 pub lower : {j k h : ℕ} {x : Expr} {a : List Lexeme} → j ≤ k → IsExpr k x a h → IsExpr j x a h
 lower le (g.unary d) = g.unary d
 lower le (g.binary i op e le' d d') = g.binary i op e (omega arith) d d'

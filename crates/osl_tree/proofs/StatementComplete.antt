@@ -333,7 +333,7 @@ module _ (inner : Parser Part) (room : ℕ) (comp : CompleteStmt inner room) whe
       ∙ ap (λ ys. Some ((ys, max (max i h) j), after)) (append_assoc xs (x ∷ []) next)
       ∙ ap (λ k. Some ((xs ++ x ∷ next, k), after)) (let q : max (max i h) j ≡ max i (max h j) = omega arith in q)))
 
-  -- a block behind its brace
+  -- a block after its brace
   pub block_complete : {xs : List Stmt} {a : List Lexeme} {h : ℕ} (after : List Lexeme) → AreStmts xs a h → h ≤ room → block inner room (a ++ sign p.CloseBrace ∷ after) ≡ Some ((xs, h + 1), after)
   unfolding block
   block_complete {xs} {a} {h} after d low =

@@ -34,7 +34,7 @@ fields_from (suc n) xs h = do
     expect (m.Punct p.Semicolon)
     fields_from n (xs ++ record { ty = to.0; items = items.0 } ∷ []) (max h (max to.1 items.1)))
 
--- a structure behind its first word
+-- a structure after its first word
 unfoldable pub structure : ℕ → Parser (Structure × ℕ)
 structure room = do
   bytes ← name
@@ -44,7 +44,7 @@ structure room = do
   h ← node room xs.1
   pure (record { name = bytes; fields = xs.0 }, h)
 
--- behind the word `output` that may be missing
+-- after the word `output` that may be missing
 abbrev pub formal_from : ℕ → Bool → Parser (Formal × ℕ)
 formal_from room output = do
   to ← type_name
@@ -127,7 +127,7 @@ params room = do
   none ← peek (m.Punct p.CloseParen)
   if none then pure ([], 1) else trailed (m.Punct p.CloseParen) (param room)
 
--- a shader behind its kind
+-- a shader after its kind
 unfoldable pub shader : ℕ → ShaderKind → Parser (Shader × ℕ)
 shader room kind = do
   bytes ← name

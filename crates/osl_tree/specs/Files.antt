@@ -73,7 +73,7 @@ pub data IsDefinition : Definition → List Lexeme → ℕ → Type 0 where
 
 -- ---- shaders
 
--- one or more, with commas between them, and perhaps one behind the last
+-- one or more, with commas between them, and perhaps one after the last
 pub data AreTrailed {A : Type 0} (Is : A → List Lexeme → ℕ → Type 0) : List A → List Lexeme → ℕ → Type 0 where
   bare : {h : ℕ} {xs : List A} {a : List Lexeme} → AreListed Is xs a h → AreTrailed Is xs a h
   with_comma : {h : ℕ} {xs : List A} {a : List Lexeme} → AreListed Is xs a h → AreTrailed Is xs (a ++ sign p.Comma ∷ []) h
@@ -109,7 +109,7 @@ pub data IsShader : Shader → List Lexeme → ℕ → Type 0 where
 
 -- ---- sources
 
--- definitions, one behind the other
+-- definitions, one after the other
 pub data AreDefinitions : List Definition → List Lexeme → ℕ → Type 0 where
   end : AreDefinitions [] [] 1
   more : {h i : ℕ} {x : Definition} {xs : List Definition} {a b : List Lexeme}

@@ -70,7 +70,7 @@ second_digit n (c ∷ cs) = if is_octal c then third_digit (n * 8 + (c - 48)) cs
 abbrev pub plain_escape : ℕ → ℕ
 plain_escape c = if nat_eq c 110 then 10 else (if nat_eq c 116 then 9 else (if nat_eq c 114 then 13 else c))
 
--- behind a `\`
+-- after a `\`
 abbrev pub escape : ℕ → List ℕ → ℕ × List ℕ
 escape c cs = if is_octal c then second_digit (c - 48) cs else (plain_escape c, cs)
 
@@ -95,7 +95,7 @@ unescaped text = unescaped_from (length text) text
 
 -- ---- tokens
 
--- what stands between the first and the last byte
+-- what is between the first and the last byte
 abbrev pub inside : List ℕ → List ℕ
 inside text = slice_range text 1 (length text - 1)
 

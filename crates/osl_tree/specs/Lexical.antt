@@ -28,7 +28,7 @@ is_word_byte c = is_ascii_alphanumeric c || nat_eq c 95
 pub data IsWord : List ℕ → Type 0 where
   word : (c : ℕ) (cs : List ℕ) → begins_word c ≡ true → AllPass is_word_byte cs → IsWord (c ∷ cs)
 
--- What stands between the quotes of a string: no quote, `\` or line feed but as the second of a pair that begins with `\`, and there no line feed.
+-- What is between the quotes of a string: no quote, `\` or line feed but as the second of a pair that begins with `\`, and there no line feed.
 pub data IsInside : List ℕ → Type 0 where
   nothing : IsInside []
   plain : (c : ℕ) (cs : List ℕ) → nat_eq c 34 ≡ false → nat_eq c 92 ≡ false → nat_eq c 10 ≡ false → IsInside cs → IsInside (c ∷ cs)
@@ -91,9 +91,9 @@ pub data IsToken : List ℕ → TokenKind → Type 0 where
   string : (text : List ℕ) → IsString text → IsToken text kinds.Str
   mark : (text : List ℕ) (sign : Punct) → text ≡ spelling sign → IsToken text (kinds.Punct sign)
 
--- ---- what stands at a place
+-- ---- what is at a place
 
--- these bytes stand there
+-- these bytes are there
 abbrev pub Stands : List ℕ → ℕ → List ℕ → Type 0
 Stands bytes at text = slice_range bytes at (at + length text) ≡ text
 
@@ -110,14 +110,14 @@ pub record IsLineComment (bytes : List ℕ) (at to : ℕ) : Type 0 where
   pub one_line : (k : ℕ) → at ≤ k → k < to → passes (nat_eq 10) (slice_get bytes k) ≡ false
   pub ends : to < length bytes → slice_get bytes to ≡ Some 10
 
--- A block comment ends behind the first `*/` that follows its `/*`.
+-- A block comment ends after the first `*/` that follows its `/*`.
 pub record IsBlockComment (bytes : List ℕ) (at to : ℕ) : Type 0 where
   pub opens : Stands bytes at (codes "/*")
   pub order : at + 4 ≤ to
   pub closes : (k : ℕ) × (k + 2 ≡ to) × Stands bytes k (codes "*/")
   pub first : (k : ℕ) → at + 2 ≤ k → k + 2 < to → Stands bytes k (codes "*/") → ⊥
 
--- what stands between tokens
+-- what is between tokens
 pub data IsGap (bytes : List ℕ) (at : ℕ) : ℕ → Type 0 where
   blank : passes is_blank (slice_get bytes at) ≡ true → IsGap bytes at (at + 1)
   line_comment : (to : ℕ) → IsLineComment bytes at to → IsGap bytes at to
@@ -145,7 +145,7 @@ is_number (kinds.Punct sign) = false
 abbrev pub is_cut_short : List ℕ → Token → Bool
 is_cut_short bytes t = is_number t.kind && passes (λ c. is_word_byte c || nat_eq c 46) (slice_get bytes t.end)
 
--- the token that stands there
+-- the token that is there
 pub record IsTokenAt (bytes : List ℕ) (at : ℕ) (t : Token) : Type 0 where
   pub starts : t.start ≡ at
   pub no_comment : IsNoComment bytes at
@@ -164,7 +164,7 @@ pub data Runs (bytes : List ℕ) : ℕ → List Token → ℕ → Type 0 where
 abbrev pub Tokens : List ℕ → List Token → Type 0
 Tokens bytes ts = Runs bytes 0 ts (length bytes)
 
--- nothing but blanks stands before it on its line
+-- nothing but blanks is before it on its line
 pub record BeginsLine (bytes : List ℕ) (at : ℕ) : Type 0 where
   pub line : ℕ
   pub order : line ≤ at

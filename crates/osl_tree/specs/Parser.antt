@@ -111,7 +111,7 @@ eat k = λ ts. Some (sees k ts, if sees k ts then rest ts else ts)
 unfoldable pub expect : Terminal → Parser (Unit {0})
 expect k = λ ts. if sees k ts then Some (tt, rest ts) else None
 
--- goes on behind it, if there is a value
+-- goes on after it, if there is a value
 abbrev pub required : {A : Type 0} → Option A → List Lexeme → Read A
 required None us = None
 required (Some a) us = Some (a, us)
@@ -212,7 +212,7 @@ listed_from one (suc n) xs h = do
 unfoldable pub listed : {A : Type 0} → Parser (A × ℕ) → Parser (List A × ℕ)
 listed one = λ ts. listed_from one (length ts) [] 1 ts
 
--- the same, but a comma may stand behind the last: there this terminal closes the list
+-- the same, but a comma may follow the last: there this terminal closes the list
 unfoldable pub trailed_from : {A : Type 0} → Terminal → Parser (A × ℕ) → ℕ → List A → ℕ → Parser (List A × ℕ)
 trailed_from close one zero xs h = refuse
 trailed_from close one (suc n) xs h = do

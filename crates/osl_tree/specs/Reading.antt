@@ -39,7 +39,7 @@ storing (suc k) terminal = None
 abbrev pub is_asking : ℕ → Bool
 is_asking k = nat_le k 1
 
--- what goes on behind a part
+-- what goes on after a part
 abbrev pub suffix_of : Terminal → Option Suffix
 suffix_of (m.Punct p.OpenBracket) = Some suffixes.Index
 suffix_of (m.Punct p.Dot) = Some suffixes.Field

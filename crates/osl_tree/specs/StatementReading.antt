@@ -108,7 +108,7 @@ module _ (inner : Parser Part) (room : ℕ) where
     ends ← eat (m.Punct p.CloseBrace)
     if ends then pure (xs, h) else (do x ← inner; stmts_from n (xs ++ x.0 ∷ []) (max h x.1))
 
-  -- a block behind its brace
+  -- a block after its brace
   unfoldable pub block : Parser (List Stmt × ℕ)
   block = do
     xs ← (λ ts. stmts_from (length ts) [] 1 ts)

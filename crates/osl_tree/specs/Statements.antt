@@ -52,7 +52,7 @@ pub data IsMaybe : Option Expr → List Lexeme → ℕ → Type 0 where
   nothing : IsMaybe None [] 1
   just : {h : ℕ} {x : Expr} {a : List Lexeme} → IsExpr 0 x a h → IsMaybe (Some x) a h
 
--- what a `for` begins with, with its semicolon
+-- the first part of a `for`, with its semicolon
 pub data IsForStart : ForStart → List Lexeme → ℕ → Type 0 where
   nothing : IsForStart starts.Nothing (sign p.Semicolon ∷ []) 1
   expr : {h : ℕ} {x : Expr} {a : List Lexeme} → IsExpr 0 x a h → IsForStart (starts.Expr x) (a ++ sign p.Semicolon ∷ []) h

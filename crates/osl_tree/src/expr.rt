@@ -20,7 +20,7 @@ pub enum BaseType {
     Closure,
 }
 
-/// An operator that stands before its operand.
+/// An operator that comes before its operand.
 #[derive(Clone, Copy, Debug, PartialEq, Eq)]
 pub enum PrefixOp {
     Minus,
@@ -33,7 +33,7 @@ pub enum PrefixOp {
     Decrement,
 }
 
-/// An operator that stands behind its operand.
+/// An operator that comes after its operand.
 #[derive(Clone, Copy, Debug, PartialEq, Eq)]
 pub enum PostfixOp {
     Increment,
@@ -112,7 +112,7 @@ pub enum Expr {
     Assign(AssignOp, Boxed<Expr>, Boxed<Expr>),
 }
 
-/// What may stand behind a part of an expression and go on with it.
+/// What may follow a part of an expression and go on with it.
 #[derive(Clone, Copy, Debug, PartialEq, Eq)]
 pub enum Suffix {
     /// `[`

@@ -65,7 +65,7 @@ impl Terminal {
         }
     }
 
-    /// What it begins behind an operand.
+    /// What it begins after an operand.
     pub fn suffix(self) -> Option<Suffix>
         ensures { result ≡ suffix_of self }
     {
@@ -139,7 +139,7 @@ impl Terminal {
         if level == 0 { self.assign() } else { None }
     }
 
-    /// How the statement begins that begins with it.
+    /// How a statement begins whose first terminal this is.
     pub fn start(self) -> Option<Start>
         ensures { result ≡ start_of self }
     {

@@ -18,7 +18,7 @@ pub struct Item {
     pub len: Option<i32>,
 }
 
-/// What a variable or a parameter begins with.
+/// The initialiser of a variable or a parameter.
 #[derive(Drop)]
 pub enum Init {
     Expr(Expr),
@@ -40,7 +40,7 @@ pub struct Declaration {
     pub vars: Items<Var>,
 }
 
-/// What a `for` begins with.
+/// The first part of a `for`.
 #[derive(Drop)]
 pub enum ForStart {
     Nothing,
@@ -71,7 +71,7 @@ pub enum Stmt {
     For(ForStart, Option<Expr>, Option<Expr>, Boxed<Stmt>),
 }
 
-/// How a statement begins that begins with a terminal of its own.
+/// How a statement begins, where a terminal of its own begins it.
 #[derive(Clone, Copy, Debug, PartialEq, Eq)]
 pub enum Start {
     Empty,

@@ -5,7 +5,7 @@ use crate::stmt::{Init, Item, Stmt, TypeName};
 use osl_value::ShaderKind;
 use sqlite_items::Items;
 
-/// Fields of one type, as they stand on one line of a structure.
+/// Fields of one type, as they are on one line of a structure.
 #[derive(Drop)]
 pub struct Fields {
     pub ty: TypeName,
@@ -37,7 +37,7 @@ pub struct Function {
     pub body: Items<Stmt>,
 }
 
-/// What may stand before the shader.
+/// What may come before the shader.
 #[derive(Drop)]
 pub enum Definition {
     Structure(Structure),

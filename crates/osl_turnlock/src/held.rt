@@ -1,4 +1,4 @@
-//! What lies behind a turn lock.
+//! What a turn lock keeps.
 ghost use Rattle.std.specs.Prelude.{◌≡◌, ℕ, List, Option, length};
 
 /// A value that threads change in turns. It is seen with a log, a list of entries to which a turn may only add

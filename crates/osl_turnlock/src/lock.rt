@@ -1,4 +1,4 @@
-//! The lock, its seats and its turns. What they can do stands in the modules below.
+//! The lock, its seats and its turns. What they can do is in the modules below.
 ghost use Rattle.std.specs.Prelude.{◌≡◌, ◌+◌, ◌<◌, length};
 
 use crate::board::{Board, Place};
@@ -11,7 +11,7 @@ mod steps;
 mod turns;
 mod value;
 
-/// A lock round a value that threads change in turns. Contracts see of it how many seats there may be
+/// A lock around a value that threads change in turns. Contracts see of it how many seats there may be
 /// (`lock_seats`), and the length of the value's log (`lock_start`) and the value's mark (`lock_mark`) when the
 /// lock was made.
 pub struct TurnLock<T: Held> {
@@ -45,7 +45,7 @@ pub struct Turn<'a, T: Held> {
     value: T,
 }
 
-/// A seat that is let go keeps what is spare of it, so no seat of its lock is alone from then on.
+/// A seat that is dropped keeps what is spare of it, so no seat of its lock is alone from then on.
 impl<T: Held> Drop for Seat<T> {
     fn drop(self) {
         let Self {

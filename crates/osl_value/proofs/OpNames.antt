@@ -7,7 +7,7 @@ use Rattle.osl_value.specs.declared.op_name.OpName.{OpName}
 use Rattle.osl_value.specs.declared.op_name.TheConstants.OpName.{ALL}
 use Rattle.osl_value.specs.declared.op_name.OpName.TheVariants.{Assign, Empty, ToInt, Add, Sub, Mul, Div, IRem, Neg, Compl, BitAnd, BitOr, Xor, Shl, Shr, Not, Eq, Neq, Lt, Gt, Le, Ge, ARef, AAssign, ArrayLength, CompRef, CompAssign, MxCompRef, MxCompAssign, Triple, Matrix, Abs, Sign, Floor, Ceil, Round, Trunc, Sqrt, InverseSqrt, Min, Max, Fmod, Mod, Step, Clamp, Mix, SmoothStep, Dot, Cross, Length, Distance, Normalize, Transpose, Transform, Concat, StrLen, StartsWith, EndsWith, SubStr, GetChar, ClEmission, ClBackground, ClHoldout, ClTransparent, ClDiffuse, ClTranslucent, ClOrenNayar, ClReflection, ClRefraction, ClDebug, If, For, While, DoWhile, FunctionCall, Break, Continue, Return, Exit}
 
--- it stands at this place
+-- it is at this place
 at : (k : ℕ) (op : OpName) → T (ltb k (length ALL)) → get_or ALL k op ≡ op → Contains ALL op
 at k op below same = (k, ltb→lt k (length ALL) below, same)
 

@@ -1,4 +1,4 @@
--- Triples and matrices (OSL specification, "Geometric functions" and "Matrix functions"): a triple stands here as its 3 floats, a matrix as its 16 floats by rows, a float as its units.
+-- Triples and matrices (OSL specification, "Geometric functions" and "Matrix functions"): a triple is seen here as its 3 floats, a matrix as its 16 floats by rows, a float as its units.
 use Rattle.std.specs.Prelude.{ℕ, ◌+◌, ◌-◌, ◌*◌, ◌==◌, min, ℤ, pos, Bool, not, if◌then◌else◌, List, [], ◌∷◌, ◌++◌, map, length, slice_index_or, slice_set}
 use Rattle.std.specs.List.{range_with_len}
 use Rattle.std.specs.Cmp.Lexicographic.{pointwise}

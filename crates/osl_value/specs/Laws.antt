@@ -43,7 +43,7 @@ WritesItsType =
     (op : OpName) (ty : Ty) (args : List AnyValue) → IsTrue (is_allowed op ty (map type_of args))
     → type_of (apply op ty args) ≡ ty
 
--- a type that values have, which is no array of closures
+-- no array of closures, of which there are no values (the other types have them)
 abbrev pub HasValues : Ty → Type 0
 HasValues ty = ty.base ≡ Closure → ty.len ≡ 0
 

@@ -1,4 +1,4 @@
--- The operations on strings (OSL specification, "String functions"). A string stands here as the list of its bytes, an int as itself.
+-- The operations on strings (OSL specification, "String functions"). A string is seen here as the list of its bytes, an int as itself.
 use Rattle.std.specs.Prelude.{ℕ, min, nat_eq, not, ℤ, pos, negsuc, ◌+ℤ◌, int_lt, if◌then◌else◌, List, ◌++◌, length, take, drop, slice_index}
 use Rattle.std.specs.List.{starts_with, ends_with}
 use Rattle.std.specs.Str.{bytes_eq}

@@ -1,6 +1,6 @@
 use std::alloc::{AllocError, AllocFailed};
 
-/// Memory was refused. It is the one answer that no clause ties to a cause.
+/// An allocation failed. It is the one answer that no clause ties to a cause.
 #[derive(Clone, Copy, Debug, PartialEq, Eq)]
 pub struct Memory;
 

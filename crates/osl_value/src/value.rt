@@ -13,7 +13,7 @@ use std::marker::Model;
 
 /// A value of a type that is no closure. Contracts see its type, its numbers and its texts.
 ///
-/// Numbers stand in the order of the elements and their components: an `int` as itself, a float
+/// Numbers are in the order of the elements and their components: an `int` as itself, a float
 /// as its units.
 #[derive(Debug, Drop)]
 pub struct Value {

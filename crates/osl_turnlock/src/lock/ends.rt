@@ -12,7 +12,7 @@ use std::alloc::{AllocFailed, Global};
 use std::snapshot::Snapshot;
 
 impl<T: Held + Send> TurnLock<T> {
-    /// A lock round the value, and its first seat, which is alone. There may be as many seats as `seats`,
+    /// A lock around the value, and its first seat, which is alone. There may be as many seats as `seats`,
     /// which is 1 to 1,024.
     ///
     /// The seat's list, mark and base are the value's. It has added nothing and set no mark.
