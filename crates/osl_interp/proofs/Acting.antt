@@ -17,7 +17,7 @@ use Rattle.oso_code.specs.declared.raw.Raw.{Raw}
 use Rattle.oso_code.specs.CodeRun.{sources_of}
 use Rattle.oso_code.specs.Ops.{type_at}
 use Rattle.oso_code.specs.Ranges.{steps_of}
-use Rattle.oso_code.specs.Run.{State, put, write, note, ticked, Sources, Outcome, Leaves, Spent, then_do, either, is_so, arguments, run_span, act, range}
+use Rattle.oso_code.specs.Run.{State, put, write, note, ticked, Sources, Outcome, Jumps, Spent, then_do, either, is_so, arguments, run_span, act, range}
 use Rattle.oso_code.specs.Steps as S
 use Rattle.oso_code.specs.declared.op.Op.{Op}
 use Rattle.oso_code.specs.Steps.{step_of}
@@ -219,7 +219,7 @@ call_entered c body a =
 -- ---- ways out
 
 pub mode_left : (c : Configuration) (way : S.Way) (mode : Mode) → At c (S.Leave way)
-    → ((from : Sources) (steps : List S.Step) (s : State) → now from steps mode c.at c.end s ≡ Leaves way s) → here mode c.at c.end ≡ 0
+    → ((from : Sources) (steps : List S.Step) (s : State) → now from steps mode c.at c.end s ≡ Jumps way s) → here mode c.at c.end ≡ 0
     → Advances one_op c (record c { mode = mode })
 mode_left c way mode a is none =
     let weighs : here c.mode c.at c.end ≡ 2 * (c.end - c.at) = ap (λ y. here y c.at c.end) a.runs in

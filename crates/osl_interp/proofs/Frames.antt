@@ -7,7 +7,7 @@ use Rattle.oso_code.specs.declared.raw.Raw.{Raw}
 use Rattle.oso_code.specs.CodeRun.{sources_of}
 use Rattle.oso_code.specs.Nesting.{IsClosed, IsInside}
 use Rattle.oso_code.specs.Ranges.{steps_of}
-use Rattle.oso_code.specs.Run.{State, ticked, Sources, Outcome, Next, Leaves, Spent, then_do, act, range}
+use Rattle.oso_code.specs.Run.{State, ticked, Sources, Outcome, Next, Jumps, Spent, then_do, act, range}
 use Rattle.oso_code.specs.Steps as S
 use Rattle.oso_code.proofs.Nested.{valid_nested}
 use Rattle.oso_code.proofs.Steady.{first_op, run_past, closed_later}
@@ -39,14 +39,14 @@ module _ (from : Sources) (steps : List S.Step) where
   resume_spent [] s = refl
   resume_spent (f ∷ fs) s = ap (close from steps f) (resume_spent fs s) ∙ spent_close f s
 
-  exit_close : (f : Frame) (s : State) → close from steps f (Leaves S.Exit s) ≡ Leaves S.Exit s
+  exit_close : (f : Frame) (s : State) → close from steps f (Jumps S.Exit s) ≡ Jumps S.Exit s
   exit_close (Rest r) s = refl
   exit_close (Called r) s = refl
   exit_close (Test l e) s = refl
   exit_close (Body l e) s = refl
   exit_close (Step l e) s = refl
 
-  pub resume_exit : (fs : List Frame) (s : State) → resume from steps fs (Leaves S.Exit s) ≡ Leaves S.Exit s
+  pub resume_exit : (fs : List Frame) (s : State) → resume from steps fs (Jumps S.Exit s) ≡ Jumps S.Exit s
   resume_exit [] s = refl
   resume_exit (f ∷ fs) s = ap (close from steps f) (resume_exit fs s) ∙ exit_close f s
 

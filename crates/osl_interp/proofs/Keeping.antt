@@ -5,10 +5,10 @@ use Rattle.std.proofs.lemmas.Bool.{eq-eqb}
 use Rattle.osl_layer.specs.Layer as L
 use Rattle.oso_code.specs.declared.op.Section.{Section}
 use Rattle.oso_code.specs.declared.raw.Raw.{Raw}
-use Rattle.oso_code.specs.CodeRun.{sources_of, is_run, run_sections, given_at, results_by}
+use Rattle.oso_code.specs.CodeRun.{sources_of, is_run, run_sections, layer_end, results_by}
 use Rattle.oso_code.specs.Lasting.{Lasts, Keeps}
 use Rattle.oso_code.specs.Ranges.{steps_of}
-use Rattle.oso_code.specs.Run.{State, put, note, Sources, Outcome, Next, Leaves, Spent, last, then_do, on_test, test_after, after_body, call_end, range}
+use Rattle.oso_code.specs.Run.{State, put, note, Sources, Outcome, Next, Jumps, Spent, last, then_do, on_test, test_after, after_body, call_end, range}
 use Rattle.oso_code.specs.Steps as S
 use Rattle.oso_code.proofs.Lasting.{then_lasts, after_lasts, call_lasts, on_lasts, turn_lasts, looped_lasts, test_lasts, range_lasts, count_lasts}
 use Rattle.osl_interp.specs.Advances.{Asks, EndsAs}
@@ -117,7 +117,7 @@ needs old new a b p g asks status =
 
 ended_last : (o : Outcome) (s : State) → EndsAs o s → last o ≡ s
 ended_last (Next t) s h = h
-ended_last (Leaves way t) s h = h
+ended_last (Jumps way t) s h = h
 ended_last (Spent t) s h = absurd h
 
 pub goes_counted : (old new : Configuration) (a b : ℕ) → Goes old new a b → Counted old a b
@@ -151,9 +151,9 @@ run_counted old new a b E.Done h = finishes_counted old new a b h
 run_counted old new a b E.Spent h = fails_counted old new a b h
 run_counted old new a b (E.Needs p) h = goes_counted old new a b h.0
 
-ended_given : (code : Raw) (o : Outcome) (s : State) → EndsAs o s → given_at code o ≡ Some (results_by code s)
+ended_given : (code : Raw) (o : Outcome) (s : State) → EndsAs o s → (layer_end code o).results ≡ Some (results_by code s)
 ended_given code (Next t) s h = ap (λ x. Some (results_by code x)) h
-ended_given code (Leaves way t) s h = ap (λ x. Some (results_by code x)) h
+ended_given code (Jumps way t) s h = ap (λ x. Some (results_by code x)) h
 ended_given code (Spent t) s h = absurd h
 
 pub done : (old mid new : LayerRun) (a b : ℕ) → Finishes (run_of old) (run_of mid) a b → run_of new ≡ run_of mid → AreKept (run_of new).code.symbols new.machine.slots.items → new.status ≡ T.Done → Done old new a b
@@ -172,7 +172,7 @@ pub spends : (old new : LayerRun) (a b : ℕ) → Fails (run_of old) (run_of new
 spends old new a b f =
     let x = f.grows in
     record {
-      given = λ inputs fits n. ap (given_at (run_of old).code) (f.ends inputs fits n);
+      given = λ inputs fits n. ap (λ (o : Outcome). (layer_end (run_of old).code o).results) (f.ends inputs fits n);
       reads = λ inputs fits n. ap (λ o. (last o).reads) (f.ends inputs fits n) ∙ ap given_reads f.inputs_stay;
       ops = λ inputs fits n. let e : (last (comes_to inputs n old)).ops ≡ n + (b - a) = ap (λ o. (last o).ops) (f.ends inputs fits n) in omega (arith, e, x);
     }

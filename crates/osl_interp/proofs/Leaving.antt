@@ -5,7 +5,7 @@ use Rattle.osl_value.specs.AnyValue.{AnyValue, argument}
 use Rattle.osl_layer.specs.Layer.{Inputs}
 use Rattle.oso_code.specs.CodeRun.{sources_of}
 use Rattle.oso_code.specs.Ranges.{steps_of}
-use Rattle.oso_code.specs.Run.{State, note, Sources, Outcome, Next, Leaves, Spent, then_do, read, is_so, Holds, Fails, on_test, test_after, after_body, call_end, arguments}
+use Rattle.oso_code.specs.Run.{State, note, Sources, Outcome, Next, Jumps, Spent, then_do, read, is_so, Holds, Fails, on_test, test_after, after_body, call_end, arguments}
 use Rattle.oso_code.specs.Steps as S
 use Rattle.oso_code.proofs.Loops.{loop_first, test_gainless, run_gainless}
 use Rattle.osl_interp.specs.Advances.{Advances, Asks, ReadsNext, StopDone, IsLast, weight, turn_weight, no_op}
@@ -32,7 +32,7 @@ way_of M.Break = S.Break
 way_of M.Continue = S.Continue
 way_of M.Return = S.Return
 
-pub leaving : (from : Sources) (steps : List S.Step) (mode : Mode) (at e : ℕ) (s : State) → mode ≢ M.Run → now from steps mode at e s ≡ Leaves (way_of mode) s
+pub leaving : (from : Sources) (steps : List S.Step) (mode : Mode) (at e : ℕ) (s : State) → mode ≢ M.Run → now from steps mode at e s ≡ Jumps (way_of mode) s
 leaving from steps M.Run at e s not = absurd (not refl)
 leaving from steps M.Break at e s not = refl
 leaving from steps M.Continue at e s not = refl
@@ -40,7 +40,7 @@ leaving from steps M.Return at e s not = refl
 
 -- a frame that is passed over
 passed : (c : Configuration) (f : Frame) → Top c f → c.mode ≢ M.Run
-    → ((from : Sources) (steps : List S.Step) (s : State) → close from steps f (Leaves (way_of c.mode) s) ≡ Leaves (way_of c.mode) s)
+    → ((from : Sources) (steps : List S.Step) (s : State) → close from steps f (Jumps (way_of c.mode) s) ≡ Jumps (way_of c.mode) s)
     → 0 < weight f → Advances no_op (top c f) c
 passed c f t not passes weighs =
     left c f c.mode c.at c.end t t.ready.here
@@ -63,7 +63,7 @@ step_passed c l e t not = passed c (Step l e) t not (λ from steps s. refl) (ome
 pub body_passed : (c : Configuration) (l : LoopOp) (e : ℕ) → Top c (Body l e) → c.mode ≡ M.Return → Advances no_op (top c (Body l e)) c
 body_passed c l e t is =
     passed c (Body l e) t (λ h. let q = sym is ∙ h in absurd (cc q))
-    (λ from steps s. subst (λ mode. close from steps (Body l e) (Leaves (way_of mode) s) ≡ Leaves (way_of mode) s) (sym is) refl)
+    (λ from steps s. subst (λ mode. close from steps (Body l e) (Jumps (way_of mode) s) ≡ Jumps (way_of mode) s) (sym is) refl)
     (omega arith)
 
 -- ---- ranges whose end is reached

@@ -8,7 +8,7 @@ use Rattle.osl_layer.specs.Layer as L
 use Rattle.oso_code.specs.declared.raw.Raw.{Raw}
 use Rattle.oso_code.specs.Ops.{type_at}
 use Rattle.oso_code.specs.CodeRun.{source_of, sources_of}
-use Rattle.oso_code.specs.Run.{State, put, note, Source, Own, Wired, Sources, Reading, Gives, Stops, read_from, read, Outcome, Next, Spent, with_value, arguments, is_so, Holds, Fails, on_test, decide}
+use Rattle.oso_code.specs.Run.{State, put, note, Source, Own, Wired, Sources, Reading, Gives, read_from, read, Outcome, Next, Spent, with_value, arguments, is_so, Holds, Fails, on_test, decide}
 use Rattle.osl_interp.specs.Known.{met_at, met, is_given, is_wired, is_wired_at, given_reads, FitsAt, Fits}
 use Rattle.osl_interp.specs.Meaning.{held_values}
 use Rattle.osl_interp.specs.Ready.{IsLaid}
@@ -236,4 +236,4 @@ first_of go (v ∷ vs) s = go v s
 -- a test is a condition that is read
 pub on_decide : (r : Reading) (go : State → Outcome) → on_test (decide r) go ≡ with_value r (λ v s. on_test (if is_so v then Holds s else Fails s) go)
 on_decide (Gives v s) go = refl
-on_decide (Stops s) go = refl
+on_decide (Spent s) go = refl

@@ -24,7 +24,7 @@ use Rattle.oso_code.specs.declared.raw.Raw.{Raw}
 use Rattle.oso_code.specs.declared.symbol.Class.{Class}
 use Rattle.oso_code.specs.declared.symbol.Class.TheVariants.{Param, Oparam, Global, Const, Local, Temp}
 use Rattle.oso_code.specs.declared.symbol.Symbol.{Symbol}
-use Rattle.oso_code.specs.CodeRun.{is_parameter_at, parameter_start, global_start, class_start, symbol_start, stated, start, layer_outcome}
+use Rattle.oso_code.specs.CodeRun.{is_parameter_at, parameter_start, global_start, class_start, symbol_start, stated, start_of, layer_run}
 use Rattle.oso_code.specs.Holding.{is_closure, is_type, makes_up}
 use Rattle.oso_code.specs.Names.{is_name}
 use Rattle.oso_code.specs.Ops.{type_at, type_of_symbol}
@@ -336,7 +336,7 @@ module _ (code : Raw) (wired : List Bool) (fixed : List (Option Plain)) (fit : I
           frames = tt;
         }
 
-    state_is_start : (inputs : L.Inputs) → Begins inputs wired fixed → state_of 0 at_first ≡ start code inputs point budget
+    state_is_start : (inputs : L.Inputs) → Begins inputs wired fixed → state_of 0 at_first ≡ start_of code inputs point budget
     state_is_start inputs begins =
         λ i. record {
           values = λ k. held_is_start inputs begins k i;
@@ -345,7 +345,7 @@ module _ (code : Raw) (wired : List Bool) (fixed : List (Option Plain)) (fit : I
           ops = 0;
         }
 
-    first_comes : (inputs : L.Inputs) → Begins inputs wired fixed → meaning inputs 0 at_first ≡ layer_outcome code inputs point budget
+    first_comes : (inputs : L.Inputs) → Begins inputs wired fixed → meaning inputs 0 at_first ≡ layer_run code inputs point budget
     first_comes inputs begins =
         between_comes at_first (record { ready = ready; runs = refl; past = omega arith; last = refl }) inputs 0
         ∙ ap (later_sections inputs code 0) (state_is_start inputs begins)

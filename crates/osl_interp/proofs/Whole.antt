@@ -5,7 +5,7 @@ use Rattle.osl_value.specs.Plain.{Plain}
 use Rattle.osl_value.specs.declared.point.Point.{Point}
 use Rattle.osl_layer.specs.Layer as L
 use Rattle.oso_code.specs.declared.raw.Raw.{Raw}
-use Rattle.oso_code.specs.CodeRun.{code_run, ops_run, given_at}
+use Rattle.oso_code.specs.CodeRun.{code_run, ops_run, layer_end}
 use Rattle.oso_code.specs.Run.{Outcome, last}
 use Rattle.osl_interp.specs.declared.layer_run.LayerRun.{LayerRun}
 use Rattle.osl_interp.specs.Known.{given_reads}
@@ -33,13 +33,13 @@ module _ (code : Raw) (inputs : L.Inputs) (point : Point) (budget : ℕ) where
 
   -- what a run comes to is what the code comes to
   ends : (n a b : ℕ) (old : LayerRun) (given : Option L.LayerResults) → IsRunOf code inputs point budget n old
-      → given_at (run_of old).code (comes_to inputs n old) ≡ given
+      → (layer_end (run_of old).code (comes_to inputs n old)).results ≡ given
       → (last (comes_to inputs n old)).reads ≡ given_reads (run_of old).inputs
       → (last (comes_to inputs n old)).ops + a ≡ n + b
       → EndsAsCode code inputs point budget given (given_reads (run_of old).inputs) n a b
   unfolding code_run ops_run
   ends n a b old given of gives reads ops = record {
-    results_are = ap (given_at code) (sym of.comes) ∙ ap (λ c. given_at c (comes_to inputs n old)) (sym of.code_is) ∙ gives;
+    results_are = ap (λ (o : Outcome). (layer_end code o).results) (sym of.comes) ∙ ap (λ c. (layer_end c (comes_to inputs n old)).results) (sym of.code_is) ∙ gives;
     reads_are = ap (λ (o : Outcome). (last o).reads) (sym of.comes) ∙ reads;
     ops_are = ap (λ (o : Outcome). (last o).ops + a) (sym of.comes) ∙ ops;
   }

@@ -4,7 +4,7 @@ use Rattle.osl_layer.specs.Layer.{Inputs, From}
 use Rattle.oso_code.specs.declared.op.Section.{Section}
 use Rattle.oso_code.specs.declared.raw.Raw.{Raw}
 use Rattle.oso_code.specs.Ranges.{steps_of}
-use Rattle.oso_code.specs.Run.{State, note, Outcome, Next, Leaves, Spent}
+use Rattle.oso_code.specs.Run.{State, note, Outcome, Next, Jumps, Spent}
 use Rattle.oso_code.specs.Steps as S
 use Rattle.osl_interp.specs.Known.{met, Fits}
 use Rattle.osl_interp.specs.Meaning.{Configuration, state_of, comes_from, meaning}
@@ -76,7 +76,7 @@ pub record Advances (t : ℕ → ℕ) (old new : Configuration) : Type 0 where
 -- the run has ended, but not for want of a turn or of a value, in this state
 abbrev pub EndsAs : Outcome → State → Type 0
 EndsAs (Next t) s = t ≡ s
-EndsAs (Leaves way t) s = t ≡ s
+EndsAs (Jumps way t) s = t ≡ s
 EndsAs (Spent t) s = ⊥
 
 -- f is the innermost frame

@@ -9,7 +9,7 @@ use Rattle.osl_layer.specs.Layer as L
 use Rattle.oso_code.specs.declared.raw.Raw.{Raw}
 use Rattle.oso_code.specs.declared.symbol.Class.TheVariants.{Param, Oparam}
 use Rattle.oso_code.specs.declared.symbol.Symbol.{Symbol}
-use Rattle.oso_code.specs.CodeRun.{is_parameter_at, given_at, results_by, layer_outcome}
+use Rattle.oso_code.specs.CodeRun.{is_parameter_at, layer_end, results_by, layer_run}
 use Rattle.oso_code.specs.Ops.{type_at}
 use Rattle.oso_code.specs.Run.{Outcome, Spent, last}
 use Rattle.osl_interp.specs.Advances.{Asks, EndsAs, work}
@@ -145,7 +145,7 @@ pub record Started (code : Raw) (fixed : List (Option Plain)) (wired : List Bool
   pub fresh : run.status ≡ S.Fresh
   pub code_is : (run_of run).code ≡ code
   pub agrees : (inputs : L.Inputs) → Begins inputs wired fixed → Agrees inputs run
-  pub comes : (inputs : L.Inputs) → Begins inputs wired fixed → comes_to inputs 0 run ≡ layer_outcome code inputs point budget
+  pub comes : (inputs : L.Inputs) → Begins inputs wired fixed → comes_to inputs 0 run ≡ layer_run code inputs point budget
 
 -- ---- go
 
@@ -166,13 +166,13 @@ pub record IsDone (run : LayerRun) : Type 0 where
 pub record Done (old new : LayerRun) (a b : ℕ) : Type 0 where
   pub done : IsDone new
   pub code : (run_of new).code ≡ (run_of old).code
-  pub given : (inputs : L.Inputs) → Agrees inputs old → (n : ℕ) → given_at (run_of old).code (comes_to inputs n old) ≡ Some (results_of new)
+  pub given : (inputs : L.Inputs) → Agrees inputs old → (n : ℕ) → (layer_end (run_of old).code (comes_to inputs n old)).results ≡ Some (results_of new)
   pub reads : (inputs : L.Inputs) → Agrees inputs old → (n : ℕ) → (last (comes_to inputs n old)).reads ≡ given_reads (run_of old).inputs
   pub ops : (inputs : L.Inputs) → Agrees inputs old → (n : ℕ) → (last (comes_to inputs n old)).ops + a ≡ n + b
 
 -- it is spent: it gives nothing
 pub record Spends (old new : LayerRun) (a b : ℕ) : Type 0 where
-  pub given : (inputs : L.Inputs) → Agrees inputs old → (n : ℕ) → given_at (run_of old).code (comes_to inputs n old) ≡ None
+  pub given : (inputs : L.Inputs) → Agrees inputs old → (n : ℕ) → (layer_end (run_of old).code (comes_to inputs n old)).results ≡ None
   pub reads : (inputs : L.Inputs) → Agrees inputs old → (n : ℕ) → (last (comes_to inputs n old)).reads ≡ given_reads (run_of old).inputs
   pub ops : (inputs : L.Inputs) → Agrees inputs old → (n : ℕ) → (last (comes_to inputs n old)).ops + a ≡ n + b
 

@@ -7,7 +7,7 @@ use Rattle.oso_code.specs.declared.raw.Raw.{Raw}
 use Rattle.oso_code.specs.CodeRun.{sources_of, is_run, run_sections}
 use Rattle.oso_code.specs.Ops.{type_at}
 use Rattle.oso_code.specs.Ranges.{steps_of}
-use Rattle.oso_code.specs.Run.{State, Sources, Outcome, Leaves, then_do, on_test, test_after, after_body, turn, looped, call_end, range}
+use Rattle.oso_code.specs.Run.{State, Sources, Outcome, Jumps, then_do, on_test, test_after, after_body, turn, looped, call_end, range}
 use Rattle.oso_code.specs.Steps as S
 use Rattle.osl_interp.specs.Known.{is_wired_at, given_reads}
 use Rattle.osl_interp.specs.declared.frame.Frame.{Frame}
@@ -84,9 +84,9 @@ resume from steps (f ∷ fs) o = close from steps f (resume from steps fs o)
 
 abbrev pub now : Sources → List S.Step → Mode → ℕ → ℕ → State → Outcome
 now from steps M.Run at e s = range from steps at e s
-now from steps M.Break at e s = Leaves S.Break s
-now from steps M.Continue at e s = Leaves S.Continue s
-now from steps M.Return at e s = Leaves S.Return s
+now from steps M.Break at e s = Jumps S.Break s
+now from steps M.Continue at e s = Jumps S.Continue s
+now from steps M.Return at e s = Jumps S.Return s
 
 -- what symbols hold. The slot of a connected parameter has what was given, which is read in place of the symbol
 abbrev pub held_values : Raw → List Known → List AnyValue → ℕ → AnyValue

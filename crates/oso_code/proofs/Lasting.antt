@@ -4,7 +4,7 @@ use Rattle.std.specs.Prelude.{slice_get, nat_lt, if◌then◌else◌}
 use Rattle.osl_value.specs.AnyValue.{AnyValue}
 use Rattle.osl_value.specs.Apply.{apply}
 use Rattle.oso_code.specs.Lasting.{Lasts, Keeps, KeepsTest, last_tested}
-use Rattle.oso_code.specs.Run.{State, write, note, ticked, with_turns, Source, Own, Wired, Held, Sources, read_from, Outcome, Next, Leaves, Spent, last, then_do, with_value, either, arguments, is_so, Tested, Holds, Fails, Ends, on_test, decide, test_after, take_turn, after_body, turn, loop, looped, call_end, Run, run_span, act, run, range}
+use Rattle.oso_code.specs.Run.{State, write, note, ticked, with_turns, Source, Own, Wired, Held, Sources, read_from, Outcome, Next, Jumps, Spent, last, then_do, with_value, either, arguments, is_so, Tested, Holds, Fails, Ends, on_test, decide, test_after, take_turn, after_body, turn, loop, looped, call_end, Run, run_span, act, run, range}
 use Rattle.oso_code.specs.Steps.{Break, Continue, Return, Exit, Step, Compute, Branch, Loop, Call, Leave}
 
 module _ (P : State → Type 0) (keeps : Lasts P) where
@@ -16,23 +16,23 @@ module _ (P : State → Type 0) (keeps : Lasts P) where
 
   pub then_lasts : (o : Outcome) (go : State → Outcome) → P (last o) → Keeps P go → P (last (then_do o go))
   then_lasts (Next s) go p h = h s p
-  then_lasts (Leaves way s) go p h = p
+  then_lasts (Jumps way s) go p h = p
   then_lasts (Spent s) go p h = p
 
   pub after_lasts : (o : Outcome) (go : State → Outcome) → P (last o) → Keeps P go → P (last (after_body o go))
   after_lasts (Next s) go p h = h s p
-  after_lasts (Leaves Break s) go p h = p
-  after_lasts (Leaves Continue s) go p h = h s p
-  after_lasts (Leaves Return s) go p h = p
-  after_lasts (Leaves Exit s) go p h = p
+  after_lasts (Jumps Break s) go p h = p
+  after_lasts (Jumps Continue s) go p h = h s p
+  after_lasts (Jumps Return s) go p h = p
+  after_lasts (Jumps Exit s) go p h = p
   after_lasts (Spent s) go p h = p
 
   pub call_lasts : (o : Outcome) → P (last o) → P (last (call_end o))
   call_lasts (Next s) p = p
-  call_lasts (Leaves Break s) p = p
-  call_lasts (Leaves Continue s) p = p
-  call_lasts (Leaves Return s) p = p
-  call_lasts (Leaves Exit s) p = p
+  call_lasts (Jumps Break s) p = p
+  call_lasts (Jumps Continue s) p = p
+  call_lasts (Jumps Return s) p = p
+  call_lasts (Jumps Exit s) p = p
   call_lasts (Spent s) p = p
 
   pub on_lasts : (t : Tested) (go : State → Outcome) → P (last_tested t) → Keeps P go → P (last (on_test t go))
@@ -75,7 +75,7 @@ module _ (P : State → Type 0) (keeps : Lasts P) where
 
   pub test_lasts : (from : Sources) (c : ℕ) (o : Outcome) → P (last o) → P (last_tested (test_after from c o))
   test_lasts from c (Next s) p = decide_lasts (from c) c s p
-  test_lasts from c (Leaves way s) p = p
+  test_lasts from c (Jumps way s) p = p
   test_lasts from c (Spent s) p = p
 
   module _ (from : Sources) (steps : List Step) where

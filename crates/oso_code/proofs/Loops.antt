@@ -1,7 +1,7 @@
 -- No run gains turns, so the bound of a loop does not matter, once it is enough: what a loop's first turn does.
 use Rattle.std.proofs.Common.{◌≡◌, ℕ, zero, suc, ◌<◌, ◌≤◌, List, true, refl, sym, ◌∙◌, arith}
 use Rattle.oso_code.specs.Lasting.{Keeps, KeepsTest, last_tested}
-use Rattle.oso_code.specs.Run.{State, with_turns, Sources, Outcome, Next, Leaves, Spent, last, then_do, Tested, Holds, Fails, Ends, on_test, test_after, take_turn, after_body, turn, loop, looped, run}
+use Rattle.oso_code.specs.Run.{State, with_turns, Sources, Outcome, Next, Jumps, Spent, last, then_do, Tested, Holds, Fails, Ends, on_test, test_after, take_turn, after_body, turn, loop, looped, run}
 use Rattle.oso_code.specs.Steps.{Break, Continue, Return, Exit, Step}
 use Rattle.oso_code.proofs.Lasting.{test_lasts, run_lasts, turns_last}
 
@@ -29,15 +29,15 @@ on_same n (Ends o) go go' le h = refl
 
 then_same : (n : ℕ) (o : Outcome) (go go' : State → Outcome) → (last o).turns ≤ n → SameWithin n go go' → then_do o go ≡ then_do o go'
 then_same n (Next s) go go' le h = h s le
-then_same n (Leaves way s) go go' le h = refl
+then_same n (Jumps way s) go go' le h = refl
 then_same n (Spent s) go go' le h = refl
 
 after_same : (n : ℕ) (o : Outcome) (go go' : State → Outcome) → (last o).turns ≤ n → SameWithin n go go' → after_body o go ≡ after_body o go'
 after_same n (Next s) go go' le h = h s le
-after_same n (Leaves Break s) go go' le h = refl
-after_same n (Leaves Continue s) go go' le h = h s le
-after_same n (Leaves Return s) go go' le h = refl
-after_same n (Leaves Exit s) go go' le h = refl
+after_same n (Jumps Break s) go go' le h = refl
+after_same n (Jumps Continue s) go go' le h = h s le
+after_same n (Jumps Return s) go go' le h = refl
+after_same n (Jumps Exit s) go go' le h = refl
 after_same n (Spent s) go go' le h = refl
 
 -- with no turn left there is none

@@ -16,7 +16,7 @@ use Rattle.oso_code.specs.declared.symbol.Symbol.{Symbol}
 use Rattle.osl_layer.specs.Globals.{global_named, global_text, global_at}
 use Rattle.osl_layer.specs.Layer.{Input, From, Fixed, Default, Inputs, LayerResults, LayerEnd}
 use Rattle.oso_code.specs.Ranges.{steps_of}
-use Rattle.oso_code.specs.Run.{State, Source, Sources, Own, Wired, Outcome, Next, Leaves, Spent, last, then_do, range}
+use Rattle.oso_code.specs.Run.{State, Source, Sources, Own, Wired, Outcome, Next, Jumps, Spent, last, then_do, range}
 use Rattle.oso_code.specs.Steps.{Step}
 use Rattle.oso_code.specs.Symbols.{is_global, is_parameter}
 
@@ -63,8 +63,8 @@ abbrev pub symbol_start : Input → Point → Option Symbol → AnyValue
 symbol_start input point None = Parts []
 symbol_start input point (Some symbol) = class_start symbol input point symbol.class
 
-abbrev pub start : Raw → Inputs → Point → ℕ → State
-start raw inputs point budget = record {
+abbrev pub start_of : Raw → Inputs → Point → ℕ → State
+start_of raw inputs point budget = record {
   values = λ k. symbol_start (inputs k) point (slice_get raw.symbols k);
   turns = budget;
   reads = λ k. false;
@@ -87,9 +87,9 @@ abbrev pub run_sections : Sources → List Step → List Section → State → O
 run_sections from steps [] s = Next s
 run_sections from steps (section ∷ sections) s = then_do (range from steps section.start section.end s) (run_sections from steps sections)
 
-abbrev pub layer_outcome : Raw → Inputs → Point → ℕ → Outcome
-layer_outcome raw inputs point budget =
-    run_sections (sources_of raw inputs) (steps_of raw) (filter (is_run inputs) raw.sections) (start raw inputs point budget)
+abbrev pub layer_run : Raw → Inputs → Point → ℕ → Outcome
+layer_run raw inputs point budget =
+    run_sections (sources_of raw inputs) (steps_of raw) (filter (is_run inputs) raw.sections) (start_of raw inputs point budget)
 
 -- ---- what it gives
 
@@ -117,16 +117,19 @@ closure_from at (symbol ∷ symbols) values = if is_ci symbol then parts_of (val
 abbrev pub results_by : Raw → State → LayerResults
 results_by raw s = record { outputs = outputs_from 0 raw.symbols s.values; closure = closure_from 0 raw.symbols s.values }
 
-abbrev pub given_at : Raw → Outcome → Option LayerResults
-given_at raw (Next s) = Some (results_by raw s)
-given_at raw (Leaves way s) = Some (results_by raw s)
-given_at raw (Spent s) = None
+-- nothing where the run was spent
+abbrev results_at : Raw → Outcome → Option LayerResults
+results_at raw (Next s) = Some (results_by raw s)
+results_at raw (Jumps way s) = Some (results_by raw s)
+results_at raw (Spent s) = None
 
+abbrev pub layer_end : Raw → Outcome → LayerEnd
+layer_end raw outcome = record { results = results_at raw outcome; reads = (last outcome).reads }
+
+-- A layer run from its code: its outputs and the parts of `Ci`, or nothing where it is spent; and the connected parameters that it read.
 unfoldable pub code_run : Raw → Inputs → Point → ℕ → LayerEnd
-code_run raw inputs point budget =
-    let outcome = layer_outcome raw inputs point budget in
-    record { results = given_at raw outcome; reads = (last outcome).reads }
+code_run raw inputs point budget = layer_end raw (layer_run raw inputs point budget)
 
 -- how many ops it ran
 unfoldable pub ops_run : Raw → Inputs → Point → ℕ → ℕ
-ops_run raw inputs point budget = (last (layer_outcome raw inputs point budget)).ops
+ops_run raw inputs point budget = (last (layer_run raw inputs point budget)).ops

@@ -47,11 +47,11 @@ Sources = ℕ → Source
 
 pub data Reading : Type 0 where
   Gives : AnyValue → State → Reading
-  Stops : State → Reading
+  Spent : State → Reading
 
 abbrev pub read_from : Source → ℕ → State → Reading
 read_from Own k s = Gives (s.values k) s
-read_from (Wired None) k s = Stops (note k s)
+read_from (Wired None) k s = Spent (note k s)
 read_from (Wired (Some v)) k s = Gives v (note k s)
 read_from (Held v) k s = Gives v s
 
@@ -63,23 +63,23 @@ read from k s = read_from (from k) k s
 -- how a range ends: by its end, by another way, or with the budget spent or a connected value missing
 pub data Outcome : Type 0 where
   Next : State → Outcome
-  Leaves : Way → State → Outcome
+  Jumps : Way → State → Outcome
   Spent : State → Outcome
 
 -- the last state
 abbrev pub last : Outcome → State
 last (Next s) = s
-last (Leaves way s) = s
+last (Jumps way s) = s
 last (Spent s) = s
 
 abbrev pub then_do : Outcome → (State → Outcome) → Outcome
 then_do (Next s) go = go s
-then_do (Leaves way s) go = Leaves way s
+then_do (Jumps way s) go = Jumps way s
 then_do (Spent s) go = Spent s
 
 abbrev pub with_value : Reading → (AnyValue → State → Outcome) → Outcome
 with_value (Gives v s) go = go v s
-with_value (Stops s) go = Spent s
+with_value (Spent s) go = Spent s
 
 abbrev pub either : Bool → (State → Outcome) → (State → Outcome) → State → Outcome
 either true go other s = go s
@@ -109,12 +109,12 @@ on_test (Ends o) go = o
 
 abbrev pub decide : Reading → Tested
 decide (Gives v s) = if is_so v then Holds s else Fails s
-decide (Stops s) = Ends (Spent s)
+decide (Spent s) = Ends (Spent s)
 
 -- a condition is read after its range was run
 abbrev pub test_after : Sources → ℕ → Outcome → Tested
 test_after from c (Next s) = decide (read from c s)
-test_after from c (Leaves way s) = Ends (Leaves way s)
+test_after from c (Jumps way s) = Ends (Jumps way s)
 test_after from c (Spent s) = Ends (Spent s)
 
 -- one turn of the budget, if there is one
@@ -125,10 +125,10 @@ take_turn (suc n) s go = go (with_turns n s)
 -- `continue` goes on with the loop as the body's end does, and `break` leaves it
 abbrev pub after_body : Outcome → (State → Outcome) → Outcome
 after_body (Next s) go = go s
-after_body (Leaves Break s) go = Next s
-after_body (Leaves Continue s) go = go s
-after_body (Leaves Return s) go = Leaves Return s
-after_body (Leaves Exit s) go = Leaves Exit s
+after_body (Jumps Break s) go = Next s
+after_body (Jumps Continue s) go = go s
+after_body (Jumps Return s) go = Jumps Return s
+after_body (Jumps Exit s) go = Jumps Exit s
 after_body (Spent s) go = Spent s
 
 -- one turn: the body, the step, and then what follows
@@ -149,10 +149,10 @@ looped false test body step s = turn body step (λ s1. loop s1.turns test body s
 -- a call's range is left by a return as by its end; `break` and `continue` do not come there in valid code
 abbrev pub call_end : Outcome → Outcome
 call_end (Next s) = Next s
-call_end (Leaves Break s) = Next s
-call_end (Leaves Continue s) = Next s
-call_end (Leaves Return s) = Next s
-call_end (Leaves Exit s) = Leaves Exit s
+call_end (Jumps Break s) = Next s
+call_end (Jumps Continue s) = Next s
+call_end (Jumps Return s) = Next s
+call_end (Jumps Exit s) = Jumps Exit s
 call_end (Spent s) = Spent s
 
 -- ---- ops
@@ -174,7 +174,7 @@ act from go (Some (Branch c holds fails)) i e s =
 act from go (Some (Loop tested c test body step)) i e s =
     then_do (looped tested (λ s1. test_after from c (run_span go test s1)) (run_span go body) (run_span go step) s) (go step.end e)
 act from go (Some (Call body)) i e s = then_do (call_end (run_span go body s)) (go body.end e)
-act from go (Some (Leave way)) i e s = Leaves way s
+act from go (Some (Leave way)) i e s = Jumps way s
 
 -- the ops from i up to e, where n is no less than their number. Each op counts once, when the run comes to it from outside its ranges
 unfoldable pub run : Sources → List Step → ℕ → Run
