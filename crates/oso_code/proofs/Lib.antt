@@ -17,6 +17,11 @@ mod RangeWalk
 mod Replicated
 mod SectionWalk
 mod Stacks
+pub mod Staying
 pub mod Steady
+pub mod Tiled
+pub mod TypedRuns
+pub mod TypedStart
+pub mod Uses
 pub mod Validity
 mod Walked

@@ -14,11 +14,29 @@ use Rattle.oso_code.specs.declared.symbol.Class.{Class}
 use Rattle.oso_code.specs.declared.symbol.Class.TheVariants.{Param, Oparam, Global, Const, Local, Temp}
 use Rattle.oso_code.specs.declared.symbol.Symbol.{Symbol}
 use Rattle.osl_layer.specs.Globals.{global_named, global_text, global_at}
-use Rattle.osl_layer.specs.Layer.{Input, From, Fixed, Default, Inputs, LayerResults, LayerEnd}
+use Rattle.osl_layer.specs.Layer.{Input, From, Fixed, Default, Inputs, Parameter, LayerResults, LayerEnd}
 use Rattle.oso_code.specs.Ranges.{steps_of}
 use Rattle.oso_code.specs.Run.{State, Source, Sources, Own, Wired, Outcome, Next, Jumps, Spent, last, then_do, range}
 use Rattle.oso_code.specs.Steps.{Step}
 use Rattle.oso_code.specs.Symbols.{is_global, is_parameter}
+
+-- ---- parameters
+
+abbrev pub parameter_of : Symbol → Class → List Parameter → List Parameter
+parameter_of symbol Param params = record { output = false; ty = symbol.ty } ∷ params
+parameter_of symbol Oparam params = record { output = true; ty = symbol.ty } ∷ params
+parameter_of symbol Global params = params
+parameter_of symbol Const params = params
+parameter_of symbol Local params = params
+parameter_of symbol Temp params = params
+
+abbrev pub parameters_in : List Symbol → List Parameter
+parameters_in [] = []
+parameters_in (symbol ∷ symbols) = parameter_of symbol symbol.class (parameters_in symbols)
+
+-- in their order, which is that of their numbers in valid code
+abbrev pub parameters_of : Raw → List Parameter
+parameters_of raw = parameters_in raw.symbols
 
 -- ---- inputs
 

@@ -9,6 +9,12 @@ pub record Lasts (P : State → Type 0) : Type 0 where
   pub ticks : (s : State) → P s → P (ticked s)
   pub turns : (n : ℕ) (s : State) → P s → s.turns ≡ suc n → P (with_turns n s)
 
+-- a fact that all but writes keep
+pub record Stays (P : State → Type 0) : Type 0 where
+  pub notes : (k : ℕ) (s : State) → P s → P (note k s)
+  pub ticks : (s : State) → P s → P (ticked s)
+  pub turns : (n : ℕ) (s : State) → P s → s.turns ≡ suc n → P (with_turns n s)
+
 -- the last state of a test
 abbrev pub last_tested : Tested → State
 last_tested (Holds s) = s

@@ -3,6 +3,7 @@ pub mod CodeRun
 pub mod Faults
 pub mod Holding
 pub mod Lasting
+pub mod Laws
 pub mod Names
 pub mod Nesting
 pub mod Ops
@@ -12,6 +13,8 @@ pub mod Run
 pub mod Sections
 pub mod Steps
 pub mod Symbols
+pub mod Typed
+pub mod Uses
 pub mod Valid
 pub mod Walk
 pub mod Walked

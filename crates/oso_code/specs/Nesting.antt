@@ -31,3 +31,15 @@ Nests steps k (Leave way) = Unit {0}
 
 pub record AreNested (steps : List Step) : Type 0 where
   pub each : (k : ℕ) (step : Step) → slice_get steps k ≡ Some step → Nests steps k step
+
+-- the ranges of the op at k lie side by side from it on: no op between it and a range's start or its end reaches past there
+abbrev pub Tiles : List Step → ℕ → Step → Type 0
+Tiles steps k (Compute name ty target sources) = Unit {0}
+Tiles steps k (Branch c holds fails) = IsClosed steps (k + 1) holds.start × IsClosed steps (k + 1) fails.start × IsClosed steps (k + 1) fails.end
+Tiles steps k (Loop tested c test body step) =
+    IsClosed steps (k + 1) test.start × IsClosed steps (k + 1) body.start × IsClosed steps (k + 1) step.start × IsClosed steps (k + 1) step.end
+Tiles steps k (Call body) = IsClosed steps (k + 1) body.start × IsClosed steps (k + 1) body.end
+Tiles steps k (Leave way) = Unit {0}
+
+pub record AreTiled (steps : List Step) : Type 0 where
+  pub each : (k : ℕ) (step : Step) → slice_get steps k ≡ Some step → Tiles steps k step

@@ -71,6 +71,10 @@ type_at symbols k = type_of_symbol (slice_get symbols k)
 abbrev pub written : Op → Option ℕ
 written op = if is_control op.name then None else slice_get op.args 0
 
+-- the symbol that an op overwrites: the one that it writes, where it is not read too
+abbrev pub overwritten : Op → Option ℕ
+overwritten op = if updates op.name then None else written op
+
 -- the symbols that an op reads, in the order in which it reads them: a condition, or the operands
 abbrev pub reads : Op → List ℕ
 reads op = if is_control op.name then op.args else operands op.name op.args

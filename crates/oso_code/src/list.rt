@@ -1,4 +1,6 @@
-ghost use Rattle.std.specs.Prelude.{◌≡◌, length, IfOk};
+ghost use Rattle.std.specs.Prelude.{◌≡◌, ◌<◌, ◌++◌, [], ◌∷◌, length, slice_set, IfOk, OnOk, OnErr};
+ghost use Rattle.std.specs.Fn.{CalledAt};
+ghost use Rattle.std.specs.List.Retain.{IsFiltered};
 
 use osl_value::Memory;
 use std::alloc::Global;
@@ -47,6 +49,33 @@ impl<T> ListOf<T> {
     {
         let ListOf { items } = self;
         items
+    }
+}
+
+impl<T: Drop> ListOf<T> {
+    /// Puts an element in the place of the one that is there.
+    pub fn set(&mut self, at: usize, item: T)
+        requires { at < length self.old }
+        ensures { self.new ≡ slice_set self.old at item }
+    {
+        self.items[at] = item;
+    }
+
+    /// Adds an element at the end.
+    pub fn push(&mut self, item: T) -> Result<(), Memory>
+        ensures pushed { OnOk result (self.new ≡ self.old ++ (item ∷ [])) }
+        ensures same { OnErr result (self.new ≡ self.old) }
+    {
+        self.items.push(item)?;
+        Ok(())
+    }
+
+    /// Drops the elements of which `keeps` does not hold.
+    pub fn retain<F: FnMut(&T) -> bool>(&mut self, keeps: F)
+        requires { F.IsAlwaysCallable keeps }
+        ensures { IsFiltered (CalledAt F.FnMut) keeps self.old self.new }
+    {
+        self.items.retain(keeps);
     }
 }
 

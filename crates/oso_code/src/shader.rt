@@ -1,6 +1,5 @@
 ghost use Rattle.std.specs.Prelude.{◌≡◌, IfOk};
 
-use crate::copies::copy_raw;
 use crate::raw::Raw;
 use osl_value::Memory;
 use std::alloc::Global;
@@ -27,8 +26,16 @@ impl Shader {
     ghost use Rattle.std.specs.Prelude.{None};
     ghost use Rattle.oso_code.specs.Valid.{IsValid, first_flaw};
 
-    /// The shader of code that has no flaw.
+    /// The shader of code that is valid.
     pub fn of_valid(raw: Raw) -> Shader
+        requires { IsValid raw }
+        ensures { result ≡ raw }
+    {
+        Shader { raw }
+    }
+
+    /// The shader of code that has no flaw, which is the same (`laws::validity_is_exact`).
+    pub fn of_flawless(raw: Raw) -> Shader
         requires { first_flaw raw ≡ None }
         ensures { result ≡ raw }
     {
@@ -47,7 +54,16 @@ impl Shader {
     pub fn copy(&self, alloc: Global) -> Result<Shader, Memory>
         ensures { IfOk result (λ shader. shader ≡ self.now) }
     {
-        let raw = copy_raw(alloc, &self.raw)?;
+        let raw = self.raw.copy(alloc)?;
         Ok(Shader { raw })
+    }
+
+    /// The code, given back to be changed.
+    pub fn into_raw(self) -> Raw
+        ensures value { result ≡ self }
+        ensures valid { IsValid result }
+    {
+        let Shader { raw } = self;
+        raw
     }
 }

@@ -25,7 +25,7 @@ pub fn validate(alloc: Global, raw: Raw) -> Result<Shader, (Raw, CodeError)>
     ensures cause { IfErr result (λ refused. Refuses raw refused.1) }
 {
     match first_flaw(alloc, &raw) {
-        Ok(None) => Ok(Shader::of_valid(raw)),
+        Ok(None) => Ok(Shader::of_flawless(raw)),
         Ok(Some((kind, at))) => Err((raw, CodeError::Flaw { kind, at })),
         Err(_memory) => Err((raw, CodeError::Memory)),
     }

@@ -111,7 +111,7 @@ fn read_shader(alloc: Global, bytes: &[u8]) -> Result<Shader, OsoError>
     ensures { Gives (λ shader. shader) result (reading bytes.now) }
 {
     let raw = read_raw(alloc, bytes)?;
-    Ok(Shader::of_valid(raw))
+    Ok(Shader::of_flawless(raw))
 }
 
 /// The shader that a text spells.

@@ -3,7 +3,7 @@
 ghost use Rattle.std.specs.Prelude.{◌≡◌, map, slice_get};
 ghost use Rattle.std.specs.List.{list_all};
 ghost use Rattle.osl_value.specs.Table.{updates};
-ghost use Rattle.oso_code.specs.Ops.{is_conditional, range_count, takes_condition, operands, takes_arguments, takes_types, type_at, written, reads, is_owner, is_assignable_in, may_write_class, may_write_symbol, may_write, comes_later, may_read, may_read_symbol, is_number_of, op_fits};
+ghost use Rattle.oso_code.specs.Ops.{is_conditional, range_count, takes_condition, operands, takes_arguments, takes_types, type_at, written, overwritten, reads, is_owner, is_assignable_in, may_write_class, may_write_symbol, may_write, comes_later, may_read, may_read_symbol, is_number_of, op_fits};
 
 use crate::checks::allowed::is_allowed;
 use crate::checks::form::{is_only, type_at};
@@ -88,6 +88,17 @@ pub fn written(op: &Op) -> Option<u32>
         None
     } else {
         op.args.as_slice().first().copied()
+    }
+}
+
+/// The symbol that an op overwrites: the one that it writes, where it does not read it too.
+pub fn overwritten(op: &Op) -> Option<u32>
+    ensures { result ≡ overwritten op.now }
+{
+    if op.name.updates() {
+        None
+    } else {
+        written(op)
     }
 }
 
