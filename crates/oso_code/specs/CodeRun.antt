@@ -1,5 +1,5 @@
 -- What a layer gives, run from its code (OSL specification, "Shader parameters" and "Global variables"; oso text, sections).
-use Rattle.std.specs.Prelude.{ℕ, ◌+◌, Bool, true, false, ◌&&◌, if◌then◌else◌, List, [], ◌∷◌, filter, Option, Some, None, slice_get}
+use Rattle.std.specs.Prelude.{ℕ, ◌+◌, Bool, true, false, ◌&&◌, if◌then◌else◌, List, [], ◌∷◌, filter, map, Option, Some, None, slice_get}
 use Rattle.std.specs.Str.{bytes_eq}
 use Rattle.osl_value.specs.declared.closure.Part.{Part}
 use Rattle.osl_value.specs.declared.point.Point.{Point}
@@ -22,21 +22,21 @@ use Rattle.oso_code.specs.Symbols.{is_global, is_parameter}
 
 -- ---- parameters
 
-abbrev pub parameter_of : Symbol → Class → List Parameter → List Parameter
-parameter_of symbol Param params = record { output = false; ty = symbol.ty } ∷ params
-parameter_of symbol Oparam params = record { output = true; ty = symbol.ty } ∷ params
-parameter_of symbol Global params = params
-parameter_of symbol Const params = params
-parameter_of symbol Local params = params
-parameter_of symbol Temp params = params
+abbrev pub is_output : Class → Bool
+is_output Param = false
+is_output Oparam = true
+is_output Global = false
+is_output Const = false
+is_output Local = false
+is_output Temp = false
 
-abbrev pub parameters_in : List Symbol → List Parameter
-parameters_in [] = []
-parameters_in (symbol ∷ symbols) = parameter_of symbol symbol.class (parameters_in symbols)
+-- what whoever gives inputs is told of a parameter
+abbrev pub parameter_of : Symbol → Parameter
+parameter_of symbol = record { output = is_output symbol.class; ty = symbol.ty }
 
--- in their order, which is that of their numbers in valid code
+-- the parameters, by their numbers: in valid code they are the first symbols
 abbrev pub parameters_of : Raw → List Parameter
-parameters_of raw = parameters_in raw.symbols
+parameters_of raw = map parameter_of (filter (λ symbol. is_parameter symbol.class) raw.symbols)
 
 -- ---- inputs
 
