@@ -44,7 +44,7 @@ module _ (raw : Raw) where
   lies_first : (section : Section) (sections : List Section) → Fits section → Lies raw (section ∷ sections) section
   lies_first section sections fits = record { ordered = fits.ordered; within = fits.within; owner = fits.owner; holds = λ k a b. section_here k section sections b }
 
-  -- a section behind another, and not before its end
+  -- a section after another, and not before its end
   lies_behind : (before : Section) (sections : List Section) → later_faults raw before sections ≡ [] → (j : ℕ) (section : Section) → slice_get sections j ≡ Some section → Lies raw sections section × (before.end ≤ section.start)
   lies_behind before [] none j section is = absurd (cc is)
   lies_behind before (next ∷ sections) none zero section is =

@@ -49,7 +49,7 @@ module _ (steps : List Step) (k : ℕ) (stack : List Open) (end : ℕ) (stacked 
   abbrev Keeps : Step → List Open → Type 0
   Keeps step new = slice_get steps k ≡ Some step → Stacked steps (k + 1) (new ++ stack)
 
-  -- two ranges, behind which the step may have an empty one
+  -- two ranges, after which the step may have an empty one
   two_keep : (step : Step) (first second : Role) (a e : ℕ) → JumpsFit (a ∷ e ∷ []) → ((j : ℕ) → filter (contains j) (ranges_of step) ≡ open_at j (entered at_end first (k + 1) a ∷ entered at_end second a e ∷ [])) → Keeps step (entered at_end first (k + 1) a ∷ entered at_end second a e ∷ [])
   two_keep step first second a e fits same is =
       let up = two_rises k a e fits.rises in

@@ -23,7 +23,7 @@ use Rattle.oso_code.proofs.OpeningOps.{JumpsFit}
 -- ---- what an op is, by its form
 
 module _ (rs : List Ranged) (k : ℕ) where
-  -- what does not leave may stand anywhere, and has ranges by its form
+  -- what does not leave may be anywhere, and has ranges by its form
   pub record Stays (step : Step) (o : Bool) : Type 0 where
     pub leaves : leaving_fits rs step ≡ true
     pub ranges : is_empty (ranges_of step) ≡ not o

@@ -27,14 +27,14 @@ module _ (from : Sources) (steps : List Step) where
   args_same (k ∷ ks) s go go' h =
       λ j. with_value (read from k s) (λ v s1. args_same ks s1 (λ vs s2. go (v ∷ vs) s2) (λ vs s2. go' (v ∷ vs) s2) (λ vs t. h (v ∷ vs) t) j)
 
-  -- what two ways to run the ranges behind the op at i of a range that ends at e have in common
+  -- what two ways to run the ranges after the op at i of a range that ends at e have in common
   abbrev pub Agree : Run → Run → ℕ → ℕ → Type 0
   Agree go go' i e = (x y : ℕ) (t : State) → i < x → y ≤ e → IsClosed steps x y → go x y t ≡ go' x y t
 
   span_same : (go go' : Run) (i next e : ℕ) (span : Span) (t : State) → IsInside steps i next span → next ≤ e → Agree go go' i e → run_span go span t ≡ run_span go' span t
   span_same go go' i next e span t inside le h = h span.start span.end t inside.later (let w = inside.within in omega (arith, w, le)) inside.closed
 
-  -- an op, by two ways to run the ranges behind it
+  -- an op, by two ways to run the ranges after it
   act_same : (go go' : Run) (i e : ℕ) (step : Step) (s : State) → Nests steps i step → IsClosed steps i e → i < e → slice_get steps i ≡ Some step → Agree go go' i e → act from go (Some step) i e s ≡ act from go' (Some step) i e s
   act_same go go' i e (Compute name ty target sources) s nest cl lt at h =
       args_same sources s (λ vs s1. go (i + 1) e (write target (apply name ty vs) s1)) (λ vs s1. go' (i + 1) e (write target (apply name ty vs) s1)) (λ vs t. h (i + 1) e (write target (apply name ty vs) t) (omega arith) (omega arith) (closed_later steps i (i + 1) e (omega arith) cl))

@@ -150,7 +150,7 @@ module _ (raw : Raw) (valid : IsValid raw) where
       let r = and_both (is_type symbol.ty) (global_fits symbol.class symbol.name symbol.ty) q.1 in
       record { leading = (and_both (is_name symbol.name) (parameter_fits leading symbol) q.0).1; is_type = r.0; global = r.1; value = (and_both valued metas p.1).0 }
 
--- a parameter behind parameters has its number among them
+-- a parameter after parameters has its number among them
 parameter_behind : (symbols : List Symbol) (k : ℕ) (symbol : Symbol) → slice_get symbols k ≡ Some symbol → is_parameter symbol.class ≡ true → IsTrue (are_parameters (take k symbols))
     → slice_get (map parameter_of (filter (λ s. is_parameter s.class) symbols)) k ≡ Some (parameter_of symbol)
 parameter_behind [] k symbol at is before = absurd (cc at)

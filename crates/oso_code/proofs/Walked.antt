@@ -1,4 +1,4 @@
--- A walk over ops: the ranges that are open are those in which a place stands.
+-- A walk over ops: the ranges that are open are those that a place is in.
 use Rattle.std.proofs.Common.{◌≡◌, ℕ, suc, ◌+◌, ◌<◌, ◌≤◌, List, [], ◌∷◌, length, Bool, true, false, refl, sym, ap, ◌∙◌, arith}
 use Rattle.std.specs.Prelude.{take, map, reverse, filter, flat_map, nat_lt, nat_le, ◌&&◌, if◌then◌else◌, IsTrue}
 use Rattle.std.specs.List.{list_all}
@@ -14,7 +14,7 @@ use Rattle.oso_code.proofs.Members.{and_both, both_and}
 abbrev pub range_of : Open → Ranged
 range_of r = ranged r.role (span r.start r.end)
 
--- the ranges in which a place stands, of those that are open
+-- the ranges that a place is in, of those that are open
 abbrev pub open_at : ℕ → List Open → List Ranged
 open_at k stack = filter (contains k) (map range_of stack)
 
@@ -99,7 +99,7 @@ close_keeps steps k (r ∷ below) s = go (nat_lt k r.end) refl (λ t. close_keep
           begun = begun_below k r below s.held.1 le;
         })
 
--- the range on top ends behind the place
+-- the range on top ends after the place
 abbrev pub Ahead : ℕ → List Open → Type 0
 Ahead k [] = Unit {0}
 Ahead k (r ∷ below) = k < r.end
@@ -112,7 +112,7 @@ close_ahead k (r ∷ below) = go (nat_lt k r.end) refl (close_ahead k below)
     go true h more = ltb-true k r.end h
     go false h more = more
 
--- ---- what a place stands in
+-- ---- what a place is in
 
 -- at a place that the range on top holds, the same are open as at another
 pub same_open : (k j : ℕ) (stack : List Open) (end : ℕ) → AllHeld stack → Begun k stack → Ahead k stack → k ≤ j → j < (inside_of end stack).end → open_at j stack ≡ open_at k stack

@@ -55,7 +55,7 @@ sources_of raw inputs k = if is_parameter_at (slice_get raw.symbols k) then sour
 
 -- ---- the start
 
--- the value that stands at a symbol, and zero or an empty closure where none does
+-- the value that a symbol states, and zero or an empty closure where it states none
 abbrev pub stated : Ty → Option Plain → AnyValue
 stated ty None = zero_value ty
 stated ty (Some v) = Of v

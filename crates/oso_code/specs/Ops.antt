@@ -81,7 +81,7 @@ reads op = if is_control op.name then op.args else operands op.name op.args
 
 -- ---- classes
 
--- the section that an op stands in: the first that ends behind it
+-- the section that an op is in: the first that ends after it
 abbrev pub section_at : List Section → ℕ → Option Section
 section_at [] k = None
 section_at (section ∷ sections) k = if nat_lt k section.end then Some section else section_at sections k

@@ -1,4 +1,4 @@
--- Where the ranges of control ops may end, and where `break` and `continue` may stand (oso text, control ops and validity).
+-- Where the ranges of control ops may end, and where `break` and `continue` may be (oso text, control ops and validity).
 use Rattle.std.specs.Prelude.{ℕ, ◌+◌, nat_lt, nat_le, Bool, true, false, ◌&&◌, List, [], ◌∷◌, filter, flat_map, reverse, take, Option, Some, None}
 use Rattle.std.specs.List.{list_all}
 use Rattle.oso_code.specs.declared.checks.role.Role.{Role}
@@ -30,7 +30,7 @@ ranges_of (Leave way) = []
 abbrev pub contains : ℕ → Ranged → Bool
 contains k r = nat_le r.span.start k && nat_lt k r.span.end
 
--- the ranges of earlier ops in which a place stands, the innermost first
+-- the ranges of earlier ops that a place is in, the innermost first
 abbrev pub around : List Step → ℕ → List Ranged
 around steps k = filter (contains k) (flat_map ranges_of (reverse (take k steps)))
 
@@ -59,7 +59,7 @@ abbrev pub in_loop_body : List Ranged → Bool
 in_loop_body [] = false
 in_loop_body (r ∷ rs) = in_body r.role (in_loop_body rs)
 
--- `break` and `continue` stand in a loop's body, with no call between
+-- `break` and `continue` are in a loop's body, with no call between
 abbrev pub way_fits : List Ranged → Way → Bool
 way_fits ranges Break = in_loop_body ranges
 way_fits ranges Continue = in_loop_body ranges

@@ -5,7 +5,7 @@ use Rattle.oso_code.specs.declared.error.CodeError.TheVariants.{Memory, Flaw}
 use Rattle.oso_code.specs.declared.raw.Raw.{Raw}
 use Rattle.oso_code.specs.Valid.{first_flaw}
 
--- memory was refused, or the flaw is the first one
+-- out of memory, or the flaw is the first one
 abbrev pub Refuses : Raw → CodeError → Type 0
 Refuses raw Memory = Unit {0}
 Refuses raw (Flaw kind at) = first_flaw raw ≡ Some (kind, at)

@@ -51,7 +51,7 @@ section_fits raw section =
 abbrev pub follows : Section → Section → Bool
 follows before section = owner_follows before.param section.param && (section.start == before.end)
 
--- the starts of sections at fault, behind one
+-- the starts of sections at fault, after one
 abbrev pub later_faults : Raw → Section → List Section → List ℕ
 later_faults raw before [] = []
 later_faults raw before (section ∷ sections) =

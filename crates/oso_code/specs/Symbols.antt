@@ -71,7 +71,7 @@ abbrev pub is_value_of : Bool → Ty → Option Plain → Bool
 is_value_of wanted ty None = not wanted
 is_value_of wanted ty (Some v) = (wanted && not (is_closure ty)) && (same_type v.ty ty && makes_up v.ty v.nums v.texts)
 
--- metadata stands on parameters alone
+-- parameters alone have metadata
 abbrev pub metadata_fits : Class → List Meta → Bool
 metadata_fits class metas = if is_parameter class then list_all datum_fits metas else is_empty metas
 
@@ -89,7 +89,7 @@ are_parameters symbols = list_all (λ symbol. is_parameter symbol.class) symbols
 abbrev pub is_taken : List Symbol → List ℕ → Bool
 is_taken symbols name = list_any (λ symbol. bytes_eq name symbol.name) symbols
 
--- a symbol behind others
+-- a symbol after others
 abbrev pub fits_behind : List Symbol → Symbol → Bool
 fits_behind before symbol = symbol_fits (are_parameters before) symbol && not (is_taken before symbol.name)
 

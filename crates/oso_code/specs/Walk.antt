@@ -16,7 +16,7 @@ abbrev pub close : ℕ → List Open → List Open
 close at [] = []
 close at (range ∷ below) = if nat_lt at range.end then range ∷ below else close at below
 
--- what the place stands in, where the section ends at `end`
+-- what the place is in, where the section ends at `end`
 abbrev pub inside_of : ℕ → List Open → Inside
 inside_of end [] = record { end = end; depth = 0; in_loop = false }
 inside_of end (range ∷ below) = record { end = range.end; depth = range.depth; in_loop = range.in_loop }
@@ -67,13 +67,13 @@ opens O.DoWhile args jumps = opens_two args jumps
 opens O.FunctionCall args jumps = opens_one args jumps
 opens _ args jumps = false
 
--- `break` and `continue` stand in a loop's body
+-- `break` and `continue` are in a loop's body
 abbrev pub may_leave : OpName → Bool → Bool
 may_leave O.Break within = within
 may_leave O.Continue within = within
 may_leave _ within = true
 
--- the jumps of an op fit what it stands in
+-- the jumps of an op fit what it is in
 abbrev pub fits_inside : Op → ℕ → Option Section → Inside → Bool
 fits_inside op at section inside =
     (ascends (at + 1) op.jumps && ends_in_section (reach (at + 1) op.jumps) section)

@@ -14,7 +14,7 @@ pub enum FlawKind {
 /// Why code was refused.
 #[derive(Clone, Copy, Debug, PartialEq, Eq)]
 pub enum CodeError {
-    /// Memory was refused.
+    /// Out of memory.
     Memory,
     /// The code is not valid. `at` is the number of the symbol or of the op at fault, and 0 for a limit.
     Flaw { kind: FlawKind, at: u32 },

@@ -42,7 +42,7 @@ fn begins_name(byte: u8) -> bool
     byte.is_ascii_alphabetic() || is_joiner(byte)
 }
 
-/// Whether the byte may stand in a name behind its first: a letter, a digit, `_`, `$` or a point.
+/// Whether the byte may come in a name after its first: a letter, a digit, `_`, `$` or a point.
 pub fn continues_name(byte: u8) -> bool
     ensures { result ≡ continues_name byte }
 {

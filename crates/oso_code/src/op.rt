@@ -6,7 +6,7 @@ use osl_value::OpName;
 pub struct Op {
     pub name: OpName,
 
-    /// The symbols' numbers. What is written stands first.
+    /// The symbols' numbers. What is written comes first.
     pub args: ListOf<u32>,
 
     /// The ops' numbers at which its ranges end, those of a control op.

@@ -3,7 +3,7 @@ use crate::op::{Op, Section};
 use crate::symbol::{Meta, Symbol};
 use osl_value::{ShaderKind, Text};
 
-/// Code as it stands in a text, valid or not.
+/// Code as a text has it, valid or not.
 #[derive(Debug, Drop)]
 pub struct Raw {
     pub kind: ShaderKind,

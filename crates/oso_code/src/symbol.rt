@@ -3,7 +3,7 @@ ghost use Rattle.std.specs.Prelude.{◌≡◌};
 use crate::list::ListOf;
 use osl_value::{Text, Ty, Value};
 
-/// What a symbol stands for.
+/// What a symbol is.
 #[derive(Clone, Copy, Debug, PartialEq, Eq)]
 pub enum Class {
     /// A parameter that only its own section may write.

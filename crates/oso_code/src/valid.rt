@@ -1,4 +1,4 @@
-//! From code as it stands to code that is valid.
+//! From code, valid or not, to code that is valid.
 
 ghost use Rattle.std.specs.Prelude.{◌≡◌, ◌<◌, ◌^◌, length, None, IfOk, IfErr};
 ghost use Rattle.oso_code.specs.Valid.{first_flaw};

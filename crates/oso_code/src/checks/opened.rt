@@ -14,16 +14,16 @@ pub struct Open {
     pub in_loop: bool,
 }
 
-/// What an op stands in.
+/// What an op is in.
 #[derive(Clone, Copy, Debug, PartialEq, Eq)]
 pub struct Inside {
     /// Where the innermost range ends, or else the section.
     pub end: u32,
 
-    /// How many ranges it stands in.
+    /// How many ranges it is in.
     pub depth: u32,
 
-    /// Whether it stands in a loop's body, with no call between.
+    /// Whether it is in a loop's body, with no call between.
     pub in_loop: bool,
 }
 

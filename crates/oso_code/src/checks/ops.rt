@@ -95,11 +95,7 @@ pub fn written(op: &Op) -> Option<u32>
 pub fn overwritten(op: &Op) -> Option<u32>
     ensures { result ≡ overwritten op.now }
 {
-    if op.name.updates() {
-        None
-    } else {
-        written(op)
-    }
+    if op.name.updates() { None } else { written(op) }
 }
 
 /// The symbols that an op reads, in the order in which it reads them: its condition, or its operands.
@@ -125,7 +121,7 @@ pub fn is_assignable_in(kind: ShaderKind, global: GlobalName) -> bool
     }
 }
 
-/// Whether a symbol may be written; `owned` says that the op stands in its section.
+/// Whether a symbol may be written; `owned` says that the op is in its section.
 fn may_write_symbol(kind: ShaderKind, owned: bool, symbol: &Symbol) -> bool
     ensures { result ≡ may_write_class kind owned symbol.now.name symbol.now.class }
 {
@@ -152,7 +148,7 @@ fn may_write(kind: ShaderKind, symbols: &[Symbol], owner: Option<u32>, target: O
     }
 }
 
-/// Whether the number is behind that of the section's owner.
+/// Whether the number comes after that of the section's owner.
 fn comes_later(owner: Option<u32>, number: u32) -> bool
     ensures { result ≡ comes_later owner number }
 {
@@ -186,7 +182,7 @@ fn are_numbers_of(symbols: &[Symbol], args: &[u32]) -> bool
     args.iter().all(|number| (*number as usize) < symbols.len())
 }
 
-/// Whether an op fits that stands in the section of the parameter `owner`, or in that of the body: its arguments are
+/// Whether an op fits that is in the section of the parameter `owner`, or in that of the body: its arguments are
 /// symbols, their count, types and classes and the count of jumps are the operation's, and no later parameter is read.
 pub fn op_fits(kind: ShaderKind, symbols: &[Symbol], owner: Option<u32>, op: &Op) -> bool
     ensures { result ≡ op_fits kind symbols.now owner op.now }

@@ -1,4 +1,4 @@
-//! Where ranges end, and where `break` and `continue` stand: one walk over the ops, with the ranges that are open.
+//! Where ranges end, and where `break` and `continue` are: one walk over the ops, with the ranges that are open.
 
 ghost use Rattle.std.specs.Prelude.{◌≡◌, ◌≤◌, ◌<◌, ◌+◌, ◌-◌, ◌^◌, ◌++◌, reverse, length, List, OnOk, IfOk};
 ghost use Rattle.oso_code.specs.Ranges.{ascends, reach, ends_in_section};
@@ -28,7 +28,7 @@ fn close(stack: &mut Vec<Open>, at: u32)
     }
 }
 
-/// What a place stands in, where the section ends at `end`.
+/// What a place is in, where the section ends at `end`.
 fn inside_of(end: u32, stack: &[Open]) -> Inside
     ensures { result ≡ inside_of end (reverse stack.now) }
 {
@@ -79,7 +79,7 @@ fn ends_in_section(end: u32, section: Option<Section>) -> bool
     }
 }
 
-/// `break` and `continue` stand in a loop's body.
+/// `break` and `continue` are in a loop's body.
 fn may_leave(name: OpName, within: bool) -> bool
     ensures { result ≡ may_leave name within }
 {
@@ -89,7 +89,7 @@ fn may_leave(name: OpName, within: bool) -> bool
     }
 }
 
-/// Whether the jumps of an op, or the `break` or `continue`, fit what it stands in.
+/// Whether the jumps of an op, or the `break` or `continue`, fit what it is in.
 fn fits_inside(op: &Op, at: u32, section: Option<Section>, inside: Inside) -> bool
     requires { at + 1 < 2 ^ 32 }
     ensures { result ≡ fits_inside op.now at section inside }
@@ -121,7 +121,7 @@ fn entered(inside: Inside, role: Role, start: u32, end: u32) -> Open
     }
 }
 
-/// Opens two ranges, the second behind the first.
+/// Opens two ranges, the second after the first.
 fn open_two(
     stack: &mut Vec<Open>,
     inside: Inside,

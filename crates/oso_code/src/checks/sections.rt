@@ -73,7 +73,7 @@ fn may_stand(owners: &[bool], owner: Option<u32>) -> bool
     }
 }
 
-/// Whether a section may stand behind one of `before`: nothing follows the body, and parameters follow in their order.
+/// Whether a section may follow one of `before`: nothing follows the body, and parameters follow in their order.
 pub fn owner_follows(before: Option<u32>, owner: Option<u32>) -> bool
     ensures { result ≡ owner_follows before owner }
 {
@@ -141,7 +141,7 @@ pub fn first_wrong_section(alloc: Global, raw: &Raw) -> Result<Option<u32>, Allo
     }
 }
 
-/// The same of the sections behind one, with what is found so far.
+/// The same of the sections after one, with what is found so far.
 fn first_wrong_behind(
     raw: &Raw,
     owners: &[bool],
@@ -169,7 +169,7 @@ fn ends_code(raw: &Raw, last: Section) -> bool
     last.param.is_none() && raw.ops.len() <= last.end as usize
 }
 
-/// The number of the section in which an op stands, where the sections before `from` end before it; their count where
+/// The number of the section that an op is in, where the sections before `from` end before it; their count where
 /// there is none.
 pub fn section_from(sections: &[Section], from: usize, at: usize) -> usize
     requires within { from ≤ length sections.now }

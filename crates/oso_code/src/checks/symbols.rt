@@ -84,7 +84,7 @@ fn is_value_of(wanted: bool, ty: Ty, value: &Option<Value>) -> bool
     }
 }
 
-/// Metadata stands on parameters alone.
+/// Parameters alone have metadata.
 fn metadata_fits(class: Class, metas: &[Meta]) -> bool
     ensures { result ≡ metadata_fits class metas.now }
 {
