@@ -1,5 +1,5 @@
 -- What no run undoes, for every part of a run.
-use Rattle.std.proofs.Common.{◌≡◌, ℕ, ◌≤◌, List, length, Option, Bool, arith}
+use Rattle.std.proofs.Common.{ℕ, ◌≤◌, List, length, Option, Bool, arith}
 use Rattle.std.specs.Prelude.{slice_get}
 use Rattle.osl_value.specs.AnyValue.{AnyValue}
 use Rattle.osl_value.specs.Apply.{apply}

@@ -1,6 +1,6 @@
 -- Along a run of valid code each symbol holds a value of its type.
-use Rattle.std.proofs.Common.{◌≡◌, ℕ, zero, suc, ◌<◌, List, [], ◌∷◌, length, map, Option, Some, None, Bool, true, false, refl, sym, ap, ◌∙◌, subst, arith}
-use Rattle.std.specs.Prelude.{slice_get, nat_eq, nat_lt, if◌then◌else◌, ◌&&◌, ◌==◌, IsTrue}
+use Rattle.std.proofs.Common.{◌≡◌, ℕ, zero, suc, ◌<◌, List, [], ◌∷◌, length, map, Some, None, Bool, true, false, refl, sym, ap, ◌∙◌, subst, arith}
+use Rattle.std.specs.Prelude.{slice_get, nat_eq, if◌then◌else◌, ◌==◌, IsTrue}
 use Rattle.std.specs.List.{All, list_all}
 use Rattle.std.proofs.lemmas.Bool.{eqb-true, ltb-true}
 use Rattle.std.proofs.lemmas.List.Elements.{All-nil, All-cons}
@@ -21,11 +21,10 @@ use Rattle.oso_code.specs.Lasting.{Stays, Keeps}
 use Rattle.oso_code.specs.Ops.{range_count, takes_arguments, takes_types, type_at, type_of_symbol, is_number_of}
 use Rattle.oso_code.specs.Ranges.{steps_of}
 use Rattle.oso_code.specs.Run.{State, put, write, note, Source, Own, Wired, Held, Sources, read, read_from, Outcome, last, with_value, arguments, run, range}
-use Rattle.oso_code.specs.Steps.{Step, Compute, Branch, Loop, Call, Leave, step_of, named_step, branch_step, while_step, for_step, do_step, call_step, compute}
+use Rattle.oso_code.specs.Steps.{Step, Compute, step_of, named_step, branch_step, while_step, for_step, do_step, call_step, compute}
 use Rattle.oso_code.specs.Typed.{IsTyped, TypedSources, AreThere, AllTyped, OpTyped, StepTyped, AreTyped}
 use Rattle.oso_code.specs.Valid.{IsValid}
 use Rattle.oso_code.proofs.Decoding.{WithOne, WithTwo, WithThree, one, two, three, with_one, with_two, with_three, came_from}
-use Rattle.oso_code.proofs.Fitting.{some_same}
 use Rattle.oso_code.proofs.Members.{and_both}
 use Rattle.oso_code.proofs.Nested.{op_facts}
 use Rattle.oso_code.proofs.Staying.{then_stays, KeepsWriting, run_stays}

@@ -1,5 +1,5 @@
 -- From inputs that fit, at a point in range, each symbol of valid code has a value of its type at the start, and what the code gives has the types of its parameters.
-use Rattle.std.proofs.Common.{◌≡◌, ℕ, zero, suc, ◌+◌, ◌≤◌, List, [], ◌∷◌, length, map, filter, replicate, Option, Some, None, Bool, true, false, ℤ, pos, negsuc, refl, sym, ap, ◌∙◌, subst, arith, lit<, lit≤}
+use Rattle.std.proofs.Common.{◌≡◌, ℕ, zero, suc, ◌+◌, ◌≤◌, List, [], ◌∷◌, length, map, filter, Option, Some, None, Bool, true, false, ℤ, pos, negsuc, refl, sym, ap, ◌∙◌, subst, arith, lit<, lit≤}
 use Rattle.std.specs.Prelude.{slice_get, take, nat_le, not, ◌&&◌, ◌||◌, ◌^◌, ◌==◌, if◌then◌else◌, IsTrue}
 use Rattle.std.specs.Str.{bytes_eq}
 use Rattle.std.specs.List.{All, list_all}
@@ -11,7 +11,7 @@ use Rattle.osl_value.specs.declared.point.Point.{Point}
 use Rattle.osl_value.specs.declared.types.Base.{Base}
 use Rattle.osl_value.specs.declared.types.Base.TheVariants as B
 use Rattle.osl_value.specs.declared.types.Ty.{Ty}
-use Rattle.osl_value.specs.AnyValue.{AnyValue, Of, Parts, parts_of, zero_value, type_of}
+use Rattle.osl_value.specs.AnyValue.{AnyValue, Of, Parts, parts_of, zero_value}
 use Rattle.osl_value.specs.Plain.{Plain, IsNumberOf, IsPlain, zero_of}
 use Rattle.osl_value.specs.Types.{only, same_base, same_type, number_count, text_count, longest_array}
 use Rattle.osl_value.specs.WellFormed.{IsPart, AreParts, IsValue, IsOfType, IsPoint}
@@ -19,14 +19,14 @@ use Rattle.osl_value.proofs.SameTypes.{same_base-true, same_type-true}
 use Rattle.osl_layer.specs.declared.global.GlobalName.{GlobalName}
 use Rattle.osl_layer.specs.Globals.{global_named, global_at, type_of_global}
 use Rattle.osl_layer.specs.Laws.{GlobalsAreTyped}
-use Rattle.osl_layer.specs.Layer.{Input, From, Fixed, Default, Inputs, Parameter, AreInputs, LayerResults}
+use Rattle.osl_layer.specs.Layer.{Input, From, Fixed, Default, Inputs, AreInputs, LayerResults}
 use Rattle.oso_code.specs.declared.raw.Raw.{Raw}
 use Rattle.oso_code.specs.declared.symbol.Class.{Class}
 use Rattle.oso_code.specs.declared.symbol.Class.TheVariants.{Param, Oparam, Global, Const, Local, Temp}
 use Rattle.oso_code.specs.declared.symbol.Symbol.{Symbol}
 use Rattle.oso_code.specs.CodeRun.{is_output, parameter_of, parameters_of, source_of, is_parameter_at, sources_of, stated, parameter_start, global_start, class_start, symbol_start, start_of, output_of, outputs_from, is_ci, closure_from, results_by, layer_end}
 use Rattle.oso_code.specs.Holding.{is_closure, is_type, fits_base, makes_up}
-use Rattle.oso_code.specs.Run.{State, Source, Own, Wired, Held, Outcome, Next, Jumps, Spent, last}
+use Rattle.oso_code.specs.Run.{State, Own, Wired, Held, Outcome, Next, Jumps, Spent, last}
 use Rattle.oso_code.specs.Symbols.{is_parameter, are_parameters, is_taken, symbol_fits, parameter_fits, global_fits, is_global_type, has_value, is_value_of, metadata_fits}
 use Rattle.oso_code.specs.Names.{is_name, main_name}
 use Rattle.oso_code.specs.Typed.{IsTyped, TypedSources, OutputFits, OutputsFit, AreResults}

@@ -8,7 +8,7 @@ use Rattle.osl_value.specs.WellFormed.{AreParts, IsOfType}
 use Rattle.osl_layer.specs.Layer.{Parameter, LayerResults}
 use Rattle.oso_code.specs.declared.symbol.Symbol.{Symbol}
 use Rattle.oso_code.specs.Ops.{type_at}
-use Rattle.oso_code.specs.Run.{State, Source, Own, Wired, Held, Sources}
+use Rattle.oso_code.specs.Run.{State, Wired, Held, Sources}
 use Rattle.oso_code.specs.Steps.{Step, Compute, Branch, Loop, Call, Leave}
 
 -- each symbol holds a value of its type

@@ -1,10 +1,9 @@
 -- What an op reads, writes and overwrites, as a step (oso text; the table of operations). `reads`, `written` and `overwritten` of `Ops` say the same of an op. A symbol that an op reads and writes is read first.
-use Rattle.std.specs.Prelude.{ℕ, ◌≡◌, if◌then◌else◌, List, [], ◌∷◌, ◌++◌, Option, Some, None, slice_get}
+use Rattle.std.specs.Prelude.{ℕ, ◌≡◌, if◌then◌else◌, List, [], ◌∷◌, ◌++◌, Option, Some, None}
 use Rattle.osl_value.specs.Table.{updates}
 use Rattle.oso_code.specs.declared.op.Op.{Op}
-use Rattle.oso_code.specs.declared.raw.Raw.{Raw}
 use Rattle.oso_code.specs.Ops.{reads, written, overwritten}
-use Rattle.oso_code.specs.Steps.{Step, Compute, Branch, Loop, Call, Leave, step_of}
+use Rattle.oso_code.specs.Steps.{Step, Compute, Branch, Loop, Call, Leave}
 
 -- what is read where a run comes to the op: operands, what is updated included, or the condition of a branch
 abbrev pub reads_on_entry : Step → List ℕ
