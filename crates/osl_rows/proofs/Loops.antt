@@ -6,7 +6,7 @@ use Rattle.osl_value.specs.declared.op_name.OpName.TheVariants as op
 use Rattle.osl_value.specs.Apply.{apply}
 use Rattle.osl_value.specs.Numbers.{root_by, root_of}
 use Rattle.osl_overload.specs.declared.signature.Kind.TheVariants.{Value}
-use Rattle.osl_typed.specs.declared.expr.Step.TheVariants.{DecrementAfter}
+use Rattle.osl_typed.specs.declared.expr.Increment.TheVariants.{PostDecrement}
 use Rattle.osl_typed.specs.Ends.{in_turn, loop}
 use Rattle.osl_typed.specs.Expressions.{whole}
 use Rattle.osl_typed.specs.Frames.{leaves_below, leaves_before}
@@ -107,7 +107,7 @@ abbrev falls : w.Whole
 falls = shader []
     (int_outputs (0 ∷ 3 ∷ []))
     []
-    (w.while_true (w.step DecrementAfter int (own 1)) (add 0 (var 1)) ∷ [])
+    (w.while_true (w.step PostDecrement int (own 1)) (add 0 (var 1)) ∷ [])
 
 fallen : source_run (w.shader falls) defaults here 3 ≡ gives_ints (pos 3 ∷ negsuc 0 ∷ [])
 unfolding leaves_below leaves_before leaves_at with_leaves in_order in_turn loop types_on_the_way selected with_selected finals_from with_elements outputs_from w.routines_below w.defaults_written w.run_of apply root_by root_of int_wrap

@@ -7,7 +7,7 @@ use Rattle.osl_value.specs.Apply.{apply}
 use Rattle.osl_value.specs.Numbers.{root_by, root_of}
 use Rattle.osl_layer.specs.declared.global.GlobalName.TheVariants as globals
 use Rattle.osl_overload.specs.declared.signature.Kind.TheVariants.{Value, Void}
-use Rattle.osl_typed.specs.declared.expr.Step.TheVariants.{DecrementFirst}
+use Rattle.osl_typed.specs.declared.expr.Increment.TheVariants.{PreDecrement}
 use Rattle.osl_typed.specs.Ends.{in_turn, loop}
 use Rattle.osl_typed.specs.Expressions.{whole}
 use Rattle.osl_typed.specs.Frames.{leaves_below, leaves_before}
@@ -272,7 +272,7 @@ picks = shader []
     (put 0 (w.choose (Value int) (with_two op.Lt (global float globals.U) (w.number (pos 500000000))) (old_step 1) (old_step 2))
     ∷ put 0 (w.choose (Value int) (with_two op.Lt (var 0) (literal 5))
     (w.paren (Value int) (set_to 1 (literal 9)))
-    (with_two op.Add (var 0) (w.step DecrementFirst int (own 2)))) ∷ [])
+    (with_two op.Add (var 0) (w.step PreDecrement int (own 2)))) ∷ [])
 
 picked : source_run (w.shader picks) defaults here 65536 ≡ gives_ints (pos 12 ∷ pos 6 ∷ pos 7 ∷ [])
 unfolding leaves_below leaves_before leaves_at with_leaves in_order in_turn loop types_on_the_way selected with_selected finals_from with_elements outputs_from w.routines_below w.defaults_written w.run_of apply root_by root_of int_wrap

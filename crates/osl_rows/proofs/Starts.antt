@@ -14,7 +14,7 @@ use Rattle.osl_overload.specs.declared.signature.Kind.TheVariants.{Value, Struct
 use Rattle.osl_value.specs.declared.shader_kind.ShaderKind.TheVariants as kinds
 use Rattle.osl_typed.specs.declared.expr.Part.{Part}
 use Rattle.osl_typed.specs.declared.expr.Root.TheVariants.{Global}
-use Rattle.osl_typed.specs.declared.expr.Step.TheVariants.{DecrementFirst, DecrementAfter}
+use Rattle.osl_typed.specs.declared.expr.Increment.TheVariants.{PreDecrement, PostDecrement}
 use Rattle.osl_typed.specs.Ends.{in_turn, loop}
 use Rattle.osl_typed.specs.Expressions.{whole}
 use Rattle.osl_typed.specs.Frames.{leaves_below, leaves_before}
@@ -252,10 +252,10 @@ abbrev downs : w.Whole
 downs = shader []
     (output int (literal 3) ∷ output int (literal 0) ∷ output int (literal 0) ∷ output float (w.number (pos 500000000)) ∷ [])
     []
-    (put 1 (w.step DecrementAfter int (own 0))
-    ∷ put 2 (w.step DecrementFirst int (own 0))
-    ∷ w.evaluate (w.step DecrementFirst float (own 3))
-    ∷ w.evaluate (w.step DecrementAfter float (own 3)) ∷ [])
+    (put 1 (w.step PostDecrement int (own 0))
+    ∷ put 2 (w.step PreDecrement int (own 0))
+    ∷ w.evaluate (w.step PreDecrement float (own 3))
+    ∷ w.evaluate (w.step PostDecrement float (own 3)) ∷ [])
 
 gone_down : source_run (w.shader downs) defaults here 0 ≡ gives (Some (an_int (pos 1)) ∷ Some (an_int (pos 3)) ∷ Some (an_int (pos 1)) ∷ Some (floats float (negsuc 1499999999 ∷ [])) ∷ [])
 unfolding leaves_below leaves_before leaves_at with_leaves in_order in_turn loop types_on_the_way selected with_selected finals_from with_elements outputs_from w.routines_below w.defaults_written w.run_of apply root_by root_of int_wrap

@@ -18,7 +18,7 @@ use Rattle.osl_typed.specs.declared.expr.Argument.TheOpen as node
 use Rattle.osl_typed.specs.declared.expr.Part.{Part}
 use Rattle.osl_typed.specs.declared.expr.Root.{Root}
 use Rattle.osl_typed.specs.declared.expr.Root.TheVariants as root
-use Rattle.osl_typed.specs.declared.expr.Step.TheVariants.{IncrementFirst, IncrementAfter}
+use Rattle.osl_typed.specs.declared.expr.Increment.TheVariants.{PreIncrement, PostIncrement}
 use Rattle.osl_typed.specs.declared.expr.TypedExpr.TheVariants as e
 use Rattle.osl_typed.specs.declared.stmt.Declared.{Declared}
 use Rattle.osl_typed.specs.declared.stmt.TypedForStart.TheVariants as start
@@ -151,10 +151,10 @@ set_at ty k i a = w.set (own k) (whole ty) (i ∷ []) a
 
 -- `++x`, which gives the new value, and `x++`, which gives the old one
 abbrev pub new_step : ℕ → w.Known
-new_step k = w.step IncrementFirst int (own k)
+new_step k = w.step PreIncrement int (own k)
 
 abbrev pub old_step : ℕ → w.Known
-old_step k = w.step IncrementAfter int (own k)
+old_step k = w.step PostIncrement int (own k)
 
 -- ---- arguments that are outputs: a variable of the type int, and `x[i]`
 

@@ -20,7 +20,7 @@ use Rattle.osl_value.specs.declared.shader_kind.ShaderKind.TheVariants as kinds
 use Rattle.osl_typed.specs.declared.expr.Root.{Root}
 use Rattle.osl_typed.specs.declared.expr.Root.TheVariants as root
 use Rattle.osl_typed.specs.declared.expr.Part as parts
-use Rattle.osl_typed.specs.declared.expr.Step.TheVariants.{IncrementFirst, IncrementAfter}
+use Rattle.osl_typed.specs.declared.expr.Increment.TheVariants.{PreIncrement, PostIncrement}
 use Rattle.osl_typed.specs.Ends.{in_turn, loop}
 use Rattle.osl_typed.specs.Expressions.{whole}
 use Rattle.osl_typed.specs.Frames.{leaves_below, leaves_before}
@@ -174,7 +174,7 @@ turns = record {
   kind = kinds.Shader;
   params = record { output = false; ty = int; from = w.int (pos 0) } ∷ record { output = true; ty = int; from = w.int (pos 0) } ∷ [];
   kinds = Value int ∷ Value int ∷ Value int ∷ [];
-  body = w.for_each 2 (Value int) (w.int (pos 0)) (w.apply_to op.Lt int (read int 2 ∷ read int 0 ∷ [])) (w.step IncrementFirst int (own 2))
+  body = w.for_each 2 (Value int) (w.int (pos 0)) (w.apply_to op.Lt int (read int 2 ∷ read int 0 ∷ [])) (w.step PreIncrement int (own 2))
       (w.evaluate (w.set (own 1) (whole int) [] (w.apply_to op.Add int (read int 1 ∷ w.int (pos 1) ∷ [])))) ∷ [];
 }
 
@@ -413,7 +413,7 @@ skips = record {
   params = record { output = true; ty = int; from = w.int (pos 0) } ∷ [];
   kinds = Value int ∷ Value int ∷ [];
   body = w.variable 1 (Value int) (w.int (pos 0))
-      ∷ w.do_while (w.block (w.evaluate (w.step IncrementFirst int (own 1))
+      ∷ w.do_while (w.block (w.evaluate (w.step PreIncrement int (own 1))
       ∷ w.only_if (w.apply_to op.Eq int (read int 1 ∷ w.int (pos 2) ∷ [])) w.go_on
       ∷ w.only_if (w.apply_to op.Gt int (read int 1 ∷ w.int (pos 3) ∷ [])) w.break_off
       ∷ w.evaluate (w.update op.Add int (own 0) (whole int) [] (read int 1)) ∷ [])) (w.int (pos 1)) ∷ [];
@@ -437,7 +437,7 @@ counts = record {
   params = record { output = true; ty = int; from = w.int (pos 0) } ∷ record { output = true; ty = int; from = w.int (pos 0) } ∷ [];
   kinds = Value int ∷ Value int ∷ Value int ∷ [];
   body = w.variable 2 (Value int) (w.int (pos 3))
-      ∷ w.evaluate (w.set (own 0) (whole int) [] (w.step IncrementAfter int (own 2)))
+      ∷ w.evaluate (w.set (own 0) (whole int) [] (w.step PostIncrement int (own 2)))
       ∷ w.evaluate (w.set (own 1) (whole int) [] (read int 2)) ∷ [];
 }
 
@@ -446,7 +446,7 @@ unfolding leaves_below leaves_before leaves_at with_leaves in_order in_turn loop
 counted = w.runs counts defaults here 65536 ∙ refl
 
 -- ---- shader guards(output int a = 0, output int b = 0, output int c = 0, output int d = 0, output int n = 0)
--- { a = 0 && ++n; b = 2 || ++n; c = 3 && ++n; d = 0 || ++n; }: the right side is evaluated where the left one does not decide, and 1 stands for what holds
+-- { a = 0 && ++n; b = 2 || ++n; c = 3 && ++n; d = 0 || ++n; }: the right side is evaluated where the left one does not decide, and 1 is what holds
 
 abbrev zero_int : w.Given
 zero_int = record { output = true; ty = int; from = w.int (pos 0) }
@@ -458,10 +458,10 @@ guards = record {
   kind = kinds.Shader;
   params = zero_int ∷ zero_int ∷ zero_int ∷ zero_int ∷ zero_int ∷ [];
   kinds = Value int ∷ Value int ∷ Value int ∷ Value int ∷ Value int ∷ [];
-  body = w.evaluate (w.set (own 0) (whole int) [] (w.both (w.int (pos 0)) (w.step IncrementFirst int (own 4))))
-      ∷ w.evaluate (w.set (own 1) (whole int) [] (w.either (w.int (pos 2)) (w.step IncrementFirst int (own 4))))
-      ∷ w.evaluate (w.set (own 2) (whole int) [] (w.both (w.int (pos 3)) (w.step IncrementFirst int (own 4))))
-      ∷ w.evaluate (w.set (own 3) (whole int) [] (w.either (w.int (pos 0)) (w.step IncrementFirst int (own 4)))) ∷ [];
+  body = w.evaluate (w.set (own 0) (whole int) [] (w.both (w.int (pos 0)) (w.step PreIncrement int (own 4))))
+      ∷ w.evaluate (w.set (own 1) (whole int) [] (w.either (w.int (pos 2)) (w.step PreIncrement int (own 4))))
+      ∷ w.evaluate (w.set (own 2) (whole int) [] (w.both (w.int (pos 3)) (w.step PreIncrement int (own 4))))
+      ∷ w.evaluate (w.set (own 3) (whole int) [] (w.either (w.int (pos 0)) (w.step PreIncrement int (own 4)))) ∷ [];
 }
 
 guarded : source_run (w.shader guards) defaults here 65536

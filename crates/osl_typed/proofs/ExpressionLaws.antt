@@ -6,7 +6,7 @@ use Rattle.osl_value.specs.declared.types.Ty.{Ty}
 use Rattle.osl_overload.specs.declared.signature.Kind.{Kind}
 use Rattle.osl_typed.specs.declared.expr.Root.{Root}
 use Rattle.osl_typed.specs.declared.expr.Part.{Part}
-use Rattle.osl_typed.specs.declared.expr.Step.{Step}
+use Rattle.osl_typed.specs.declared.expr.Increment.{Increment}
 use Rattle.osl_typed.specs.declared.expr.TypedExpr.{TypedExpr}
 use Rattle.osl_typed.specs.declared.expr.TypedExpr.TheVariants as e
 use Rattle.osl_typed.specs.declared.expr.Argument.{Argument}
@@ -94,7 +94,7 @@ eval-Update frame calls op ty root part indices a =
     ap (fold-TypedExpr Passing Meaning (argument_step frame) (expr_step frame calls)) (sym (e.rolls-Update op ty root part indices a))
     ∙ fold-roll-TypedExpr Passing Meaning (argument_step frame) (expr_step frame calls) (node.Update op ty root part indices a)
 
-pub eval-Step : (frame : Frame) (calls : Calls) (step : Step) (ty : Ty) (root : Root) → eval frame calls (e.Step step ty root) ≡ expr_step frame calls (node.Step step ty root)
+pub eval-Step : (frame : Frame) (calls : Calls) (step : Increment) (ty : Ty) (root : Root) → eval frame calls (e.Step step ty root) ≡ expr_step frame calls (node.Step step ty root)
 unfolding eval pass
 eval-Step frame calls step ty root =
     ap (fold-TypedExpr Passing Meaning (argument_step frame) (expr_step frame calls)) (sym (e.rolls-Step step ty root))

@@ -10,7 +10,7 @@ use Rattle.osl_typed.specs.declared.expr.Argument.TheOpen as node
 use Rattle.osl_typed.specs.declared.expr.Argument.TheVariants as arguments
 use Rattle.osl_typed.specs.declared.expr.Part.{Part}
 use Rattle.osl_typed.specs.declared.expr.Root.{Root}
-use Rattle.osl_typed.specs.declared.expr.Step.{Step}
+use Rattle.osl_typed.specs.declared.expr.Increment.{Increment}
 use Rattle.osl_typed.specs.declared.expr.TypedExpr.{TypedExpr}
 use Rattle.osl_typed.specs.declared.expr.TypedExpr.TheVariants as e
 use Rattle.osl_typed.specs.declared.sizes.Weight.{Weight}
@@ -99,7 +99,7 @@ weight-Update scale op ty root part indices a =
     ap (fold-TypedExpr Weight Weight (argument_weight scale) (expr_weight scale)) (sym (e.rolls-Update op ty root part indices a))
     ∙ fold-roll-TypedExpr Weight Weight (argument_weight scale) (expr_weight scale) (node.Update op ty root part indices a)
 
-pub weight-Step : (scale : Scale) (step : Step) (ty : Ty) (root : Root) → weight scale (e.Step step ty root) ≡ expr_weight scale (node.Step step ty root)
+pub weight-Step : (scale : Scale) (step : Increment) (ty : Ty) (root : Root) → weight scale (e.Step step ty root) ≡ expr_weight scale (node.Step step ty root)
 unfolding weight weight_passed
 weight-Step scale step ty root =
     ap (fold-TypedExpr Weight Weight (argument_weight scale) (expr_weight scale)) (sym (e.rolls-Step step ty root))

@@ -16,7 +16,7 @@ use Rattle.osl_typed.specs.declared.expr.Argument.TheOpen as node
 use Rattle.osl_typed.specs.declared.expr.Argument.TheVariants as arguments
 use Rattle.osl_typed.specs.declared.expr.Part.{Part}
 use Rattle.osl_typed.specs.declared.expr.Root.{Root}
-use Rattle.osl_typed.specs.declared.expr.Step.{Step}
+use Rattle.osl_typed.specs.declared.expr.Increment.{Increment}
 use Rattle.osl_typed.specs.declared.expr.TypedExpr.{TypedExpr}
 use Rattle.osl_typed.specs.declared.expr.TypedExpr.TheVariants as e
 use Rattle.osl_typed.specs.declared.shader.TypedFunction.{TypedFunction}
@@ -33,7 +33,7 @@ use Rattle.osl_typed.specs.Frames.{place_of}
 use Rattle.osl_typed.specs.Parts.{Frame}
 use Rattle.osl_typed.specs.SourceRun.{start_of, shader_frame, functions_of, default_held, defaults_held, layer_end, source_run}
 use Rattle.osl_typed.specs.State.{State, Globals, Reads, Gives, in_order, write_leaves}
-use Rattle.osl_typed.specs.Statements.{with_value, tested, done, decided, listed, exec, exec_all, call_end, entered, function_frame, below}
+use Rattle.osl_typed.specs.Statements.{with_value, tested, done, decided, listed, exec, exec_all, call_end, frame_types, entered, function_frame, run_function, below}
 use Rattle.osl_typed.proofs.ExpressionLaws as laws
 use Rattle.osl_typed.proofs.StatementLaws as laws2
 
@@ -61,6 +61,9 @@ int n = record { tree = e.Int n; means = λ frame calls. expr_step frame calls (
 
 abbrev pub number : ℤ → Known
 number units = record { tree = e.Float units; means = λ frame calls. expr_step frame calls (node.Float units); same = λ frame calls. laws.eval-Float frame calls units }
+
+abbrev pub text : List ℕ → Known
+text bytes = record { tree = e.Text bytes; means = λ frame calls. expr_step frame calls (node.Text bytes); same = λ frame calls. laws.eval-Text frame calls bytes }
 
 abbrev pub part : Root → Part → List Known → Known
 part root p ks = record {
@@ -139,7 +142,7 @@ update op ty root p ks a = record {
       ∙ (λ i. expr_step frame calls (node.Update op ty root p (all_same frame calls ks i) (a.same frame calls i)));
 }
 
-abbrev pub step : Step → Ty → Root → Known
+abbrev pub step : Increment → Ty → Root → Known
 step by ty root = record { tree = e.Step by ty root; means = λ frame calls. expr_step frame calls (node.Step by ty root); same = λ frame calls. laws.eval-Step frame calls by ty root }
 
 abbrev pub exit : Known
@@ -221,7 +224,7 @@ evaluate k = record {
   same = λ frame calls. laws2.exec-Expr frame calls k.tree ∙ ap done (k.same frame calls);
 }
 
--- the variable of a number begins with an expression
+-- the variable of a number, whose initialiser is an expression
 abbrev pub variable : ℕ → Kind → Known → Does
 variable k kind a = record {
   tree = s.Declare (record { number = k; kind = kind; init = Some (init.Expr a.tree) } ∷ []);
@@ -230,7 +233,7 @@ variable k kind a = record {
       ∙ (λ i. in_turn ((λ s. with_value (a.same frame calls i s) (λ vs s1. Next (write_leaves (place_of frame.structures frame.kinds k) vs s1))) ∷ []));
 }
 
--- the variable of a number begins with a list
+-- the variable of a number, whose initialiser is a list
 abbrev pub variable_of : ℕ → Kind → List Known → Does
 variable_of k kind ks = record {
   tree = s.Declare (record { number = k; kind = kind; init = Some (init.List (trees ks)) } ∷ []);
@@ -311,26 +314,22 @@ run_routine structures calls (Some f) s = call_end structures (function f) (in_t
 unfoldable pub routines_below : List TypedStructure → List Routine → ℕ → Calls
 routines_below structures fs zero f args globals turns reads = Lost turns reads
 routines_below structures fs (suc n) f args globals turns reads =
-    if f == n then run_routine structures (routines_below structures fs n) (slice_get fs n) (entered args globals turns reads)
+    if f == n then run_routine structures (routines_below structures fs n) (slice_get fs n) (entered (frame_types structures (option_map function (slice_get fs n))) args globals turns reads)
     else routines_below structures fs n f args globals turns reads
 
-abbrev run_typed : List TypedStructure → Calls → Option TypedFunction → State → Called
-run_typed structures calls None s = Lost s.turns s.reads
-run_typed structures calls (Some f) s = call_end structures f (exec_all (function_frame structures f) calls f.body s)
-
 same_routine : (structures : List TypedStructure) (one other : Calls) → one ≡ other → (f : Option Routine) (s : State)
-    → run_typed structures one (option_map function f) s ≡ run_routine structures other f s
+    → run_function structures one (option_map function f) s ≡ run_routine structures other f s
 same_routine structures one other same None s = refl
 same_routine structures one other same (Some f) s =
     ap (λ calls. call_end structures (function f) (exec_all (function_frame structures (function f)) calls (steps f.body) s)) same
     ∙ (λ i. call_end structures (function f) (in_turn (all_done (function_frame structures (function f)) other f.body i) s))
 
 same_next : (structures : List TypedStructure) (fs : List Routine) (n : ℕ) → below structures (functions fs) n ≡ routines_below structures fs n → (args : List (List AnyValue)) (globals : Globals) (turns : ℕ) (reads : Reads)
-    → run_typed structures (below structures (functions fs) n) (slice_get (functions fs) n) (entered args globals turns reads)
-    ≡ run_routine structures (routines_below structures fs n) (slice_get fs n) (entered args globals turns reads)
+    → run_function structures (below structures (functions fs) n) (slice_get (functions fs) n) (entered (frame_types structures (slice_get (functions fs) n)) args globals turns reads)
+    ≡ run_routine structures (routines_below structures fs n) (slice_get fs n) (entered (frame_types structures (option_map function (slice_get fs n))) args globals turns reads)
 same_next structures fs n inside args globals turns reads =
-    ap (λ g. run_typed structures (below structures (functions fs) n) g (entered args globals turns reads)) (slice_get-map function fs n)
-    ∙ same_routine structures _ _ inside (slice_get fs n) (entered args globals turns reads)
+    ap (λ g. run_function structures (below structures (functions fs) n) g (entered (frame_types structures g) args globals turns reads)) (slice_get-map function fs n)
+    ∙ same_routine structures _ _ inside (slice_get fs n) (entered (frame_types structures (option_map function (slice_get fs n))) args globals turns reads)
 
 same_routines : (structures : List TypedStructure) (fs : List Routine) (n : ℕ) → below structures (functions fs) n ≡ routines_below structures fs n
 unfolding below routines_below

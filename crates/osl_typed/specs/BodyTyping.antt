@@ -45,7 +45,7 @@ declared_kind structures (types.Base base) (Some n) = array_kind (base_named bas
 declared_kind structures (types.Struct word) None = structure_named 0 structures word >>= λ m. Some (Structure m)
 declared_kind structures (types.Struct word) (Some n) = None
 
--- ---- what a variable begins with
+-- ---- initialisers
 
 -- what a list in braces may give: the elements of an array, or the fields of a structure
 abbrev pub listed_kinds : List StructureName → Kind → Option (List Kind)
@@ -73,7 +73,7 @@ abbrev pub maybe_begun : Sight → Scope → Kind → Option Init → Option (Op
 maybe_begun sight scope kind None = Some None
 maybe_begun sight scope kind (Some x) = begun sight scope kind x >>= λ y. Some (Some y)
 
--- a variable is declared behind what it begins with, if its name is not declared in this very block
+-- a variable is in scope only after its initialiser, if its name is not declared in this very block
 unfoldable pub declare : Sight → TypeName → Var → Scope → Option (Declared × Scope)
 declare sight type v scope = do
   kind ← declared_kind sight.structures type v.item.len
@@ -166,6 +166,6 @@ going_step around (s.For first c step go) in_loop scope = do
 unfoldable pub going : Around → Stmt → Going
 going around x = fold-Stmt Going (going_step around) x
 
--- the statements of a body; `break` and `continue` stand in its loops
+-- the statements of a body; `break` and `continue` are in its loops
 abbrev pub body_typed : Around → List Stmt → Scope → Option (List TypedStmt × Scope)
 body_typed around body scope = all_typed (map (going around) body) false scope

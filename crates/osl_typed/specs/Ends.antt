@@ -3,7 +3,7 @@ use Rattle.std.specs.Prelude.{ℕ, zero, suc, Bool, true, false, List, [], ◌�
 use Rattle.osl_value.specs.AnyValue.{AnyValue}
 use Rattle.osl_typed.specs.State.{State, with_turns}
 
--- A statement goes on behind its end, or leaves what is round it.
+-- A statement goes on after its end, or leaves what is round it.
 pub data StatementEnd : Type 0 where
   Next : State → StatementEnd
   Breaks : State → StatementEnd
@@ -68,7 +68,7 @@ unfoldable pub loop : (n : ℕ) → (test : State → Tested) → (body step : D
 loop zero test body step s = on_test (test s) Spent
 loop (suc n) test body step s = on_test (test s) (turn body step (loop n test body step))
 
--- a loop that tests before its first turn, or behind it
+-- a loop that tests before its first turn, or after it
 abbrev pub looped : (tested_first : Bool) → (test : State → Tested) → (body step : Doing) → Doing
 looped true test body step s = loop s.turns test body step s
 looped false test body step s = turn body step (λ s1. loop s1.turns test body step s1) s

@@ -13,15 +13,15 @@ use Rattle.osl_overload.specs.declared.signature.Kind.{Kind}
 use Rattle.osl_overload.specs.declared.signature.Kind.TheVariants.{Value}
 use Rattle.osl_typed.specs.declared.expr.Root.{Root}
 use Rattle.osl_typed.specs.declared.expr.Part.{Part}
-use Rattle.osl_typed.specs.declared.expr.Step.{Step}
-use Rattle.osl_typed.specs.declared.expr.Step.TheVariants.{IncrementFirst, DecrementFirst, IncrementAfter, DecrementAfter}
+use Rattle.osl_typed.specs.declared.expr.Increment.{Increment}
+use Rattle.osl_typed.specs.declared.expr.Increment.TheVariants.{PreIncrement, PreDecrement, PostIncrement, PostDecrement}
 use Rattle.osl_typed.specs.declared.expr.TypedExpr.{TypedExpr}
 use Rattle.osl_typed.specs.declared.expr.Argument.{Argument}
 use Rattle.osl_typed.specs.declared.expr.Argument.TheOpen as e
 use Rattle.osl_typed.specs.declared.expr.Argument.TheOpen.{TypedExpr-F, Argument-F}
 use Rattle.osl_typed.specs.declared.expr.Argument.TheFolds.{fold-TypedExpr, fold-Argument}
 use Rattle.osl_typed.specs.Selections.{part_kind}
-use Rattle.osl_typed.specs.State.{State, Globals, Reads, ExpressionEnd, Gives, Leaves, Stops, then_value, in_order}
+use Rattle.osl_typed.specs.State.{State, Globals, Reads, ExpressionEnd, Gives, Exits, Spent, then_value, in_order}
 use Rattle.osl_typed.specs.Parts.{Frame, single, int_of, read_leaves, selection, field_leaves, write_part}
 
 -- the meaning of an expression: from a state, its value as the list of its leaves
@@ -55,7 +55,7 @@ value_passed (Lent value root part indices) = value
 abbrev pub Passing : Type 0
 Passing = State → ExpressionEnd Passed
 
-abbrev write_back : Frame → Passed → List AnyValue → State → State
+abbrev pub write_back : Frame → Passed → List AnyValue → State → State
 write_back frame (Copied value) final s = s
 write_back frame (Lent value root part indices) final s = write_part frame root part indices final s
 
@@ -65,14 +65,14 @@ copied_back frame [] finals s = s
 copied_back frame (arg ∷ args) [] s = s
 copied_back frame (arg ∷ args) (final ∷ finals) s = copied_back frame args finals (write_back frame arg final s)
 
-abbrev counted : ℕ → Reads → State → State
+abbrev pub counted : ℕ → Reads → State → State
 counted turns reads s = record { vars = s.vars; globals = s.globals; turns = turns; reads = reads }
 
 -- what the caller does after a call: outputs are written at a return alone
 abbrev pub after_call : Frame → List Passed → State → Called → ExpressionEnd (List AnyValue)
 after_call frame args s (Came result finals turns reads) = Gives result (copied_back frame args finals (counted turns reads s))
-after_call frame args s (Left turns reads) = Leaves (counted turns reads s)
-after_call frame args s (Lost turns reads) = Stops (counted turns reads s)
+after_call frame args s (Left turns reads) = Exits (counted turns reads s)
+after_call frame args s (Lost turns reads) = Spent (counted turns reads s)
 
 -- ---- values
 
@@ -88,7 +88,7 @@ abbrev pub promoted : Ty → AnyValue → AnyValue
 promoted ty v = if same_base ty.base Closure then Parts [] else apply Assign ty (v ∷ [])
 
 -- the value as the kind of the variable that it is stored in
-abbrev stored_as : Kind → AnyValue → AnyValue
+abbrev pub stored_as : Kind → AnyValue → AnyValue
 stored_as (Value ty) v = apply Assign ty (v ∷ [])
 stored_as _ v = v
 
@@ -107,24 +107,24 @@ indexed indices s go = in_order indices s (λ is s1. go (map single is) s1)
 abbrev pub whole : Ty → Part
 whole ty = record { fields = []; kind = Value ty; component = None }
 
-abbrev step_op : Step → OpName
-step_op IncrementFirst = Add
-step_op DecrementFirst = Sub
-step_op IncrementAfter = Add
-step_op DecrementAfter = Sub
+abbrev pub step_op : Increment → OpName
+step_op PreIncrement = Add
+step_op PreDecrement = Sub
+step_op PostIncrement = Add
+step_op PostDecrement = Sub
 
-abbrev one_of : Ty → AnyValue
+abbrev pub one_of : Ty → AnyValue
 one_of ty = promoted ty (int_of 1)
 
-abbrev stepped : Step → Ty → AnyValue → AnyValue
+abbrev pub stepped : Increment → Ty → AnyValue → AnyValue
 stepped step ty v = apply (step_op step) ty (v ∷ one_of ty ∷ [])
 
 -- the first forms give the new value, and the others the old one
-abbrev step_gives : Step → (old new : AnyValue) → AnyValue
-step_gives IncrementFirst old new = new
-step_gives DecrementFirst old new = new
-step_gives IncrementAfter old new = old
-step_gives DecrementAfter old new = old
+abbrev pub step_gives : Increment → (old new : AnyValue) → AnyValue
+step_gives PreIncrement old new = new
+step_gives PreDecrement old new = new
+step_gives PostIncrement old new = old
+step_gives PostDecrement old new = old
 
 -- ---- nodes
 
@@ -149,7 +149,7 @@ updated frame op ty root part indices e s =
     let new = stored_as (part_kind part indices) (apply op ty (single old ∷ single v ∷ [])) ∷ [] in
     Gives new (write_part frame root part is new s3))))
 
-abbrev pub stepping : Frame → Step → Ty → Root → Meaning
+abbrev pub stepping : Frame → Increment → Ty → Root → Meaning
 stepping frame step ty root s =
     then_value (read_part frame root (whole ty) [] s) (λ old s1.
     let new = stepped step ty (single old) in
@@ -181,7 +181,7 @@ expr_step frame calls (e.Assign root part indices a) s = assigned frame root par
 expr_step frame calls (e.Update op ty root part indices a) s = updated frame op ty root part indices a s
 expr_step frame calls (e.Step step ty root) s = stepping frame step ty root s
 expr_step frame calls (e.Call f kind args) s = called frame calls f args s
-expr_step frame calls e.Exit s = Leaves s
+expr_step frame calls e.Exit s = Exits s
 
 -- an argument is evaluated at its turn; an output takes its indices and its value
 abbrev pub argument_step : Frame → Argument-F Passing Meaning → Passing

@@ -35,7 +35,7 @@ use Rattle.osl_typed.specs.Scopes.{Scope, is_here, with_variable, enter, outermo
 use Rattle.osl_typed.specs.Typing.{◌>>=◌, when, sequence, formal_kinds, plain_type, candidates}
 use Rattle.osl_typed.specs.BodyTyping.{declared_kind, begun, body_typed}
 
--- ---- what stands above a place
+-- ---- what is declared above a place
 
 -- the structures and the functions that are declared, and the typed forms of the functions
 pub record Above : Type 0 where
@@ -189,7 +189,7 @@ params_added sight (param ∷ params) scope = param_added sight param scope >>= 
 abbrev pub kinds_of_fields : StructureName → TypedStructure
 kinds_of_fields structure = record { fields = map (λ field. field.kind) structure.fields }
 
--- A shader's parameters and the outermost declarations of its body stand in one block.
+-- A shader's parameters and the outermost declarations of its body are in one block.
 unfoldable pub shader_typed : Tree → Above → Option TypedShader
 shader_typed tree above = do
   metadata ← metadata_typed above.sight (outermost (λ g. false)) tree.shader.metadata

@@ -2,7 +2,7 @@
 use Rattle.std.specs.Prelude.{ℕ, zero, suc, ◌+◌, ◌==◌, if◌then◌else◌, List, [], ◌∷◌, length, take, map, None, Some, slice_get, slice_index_or}
 use Rattle.std.specs.List.{flat_map}
 use Rattle.osl_value.specs.declared.types.Ty.{Ty}
-use Rattle.osl_value.specs.AnyValue.{AnyValue, zero_value}
+use Rattle.osl_value.specs.AnyValue.{AnyValue, Parts, zero_value}
 use Rattle.osl_overload.specs.declared.signature.Kind.{Kind}
 use Rattle.osl_overload.specs.declared.signature.Kind.TheVariants.{Value, Structure, Void}
 use Rattle.osl_typed.specs.declared.shader.TypedStructure.{TypedStructure}
@@ -43,7 +43,7 @@ abbrev pub fields_in : List TypedStructure → Kind → List Kind
 fields_in structures (Structure m) = fields_of structures m
 fields_in structures _ = []
 
--- how many leaves stand before those that the fields lead to
+-- how many leaves there are before those that the fields lead to
 unfoldable pub leaves_before : List TypedStructure → Kind → List ℕ → ℕ
 leaves_before structures kind [] = 0
 leaves_before structures kind (field ∷ fields) =
@@ -55,6 +55,10 @@ leaves_before structures kind (field ∷ fields) =
 -- where the leaves of variable k begin
 abbrev pub place_of : List TypedStructure → List Kind → ℕ → ℕ
 place_of structures frame k = length (flat_map (leaves_of structures) (take k frame))
+
+-- zero in each leaf of these types, by its place
+abbrev pub zero_leaves : List Ty → ℕ → AnyValue
+zero_leaves types k = elim (slice_get types k) [ None ↦ Parts [] | Some ty ↦ zero_value ty ]
 
 abbrev pub kind_in : List Kind → ℕ → Kind
 kind_in frame k = slice_index_or frame k Void

@@ -6,6 +6,7 @@ pub mod Parts
 pub mod Expressions
 pub mod Statements
 pub mod SourceRun
+pub mod Metadata
 pub mod Sizes
 pub mod Scopes
 pub mod Operators
@@ -15,5 +16,7 @@ pub mod Typing
 pub mod BodyTyping
 pub mod Longest
 pub mod FileTyping
+pub mod Sources
+pub mod SourceTyping
 pub mod Measured
 pub mod Seen

@@ -14,7 +14,7 @@ use Rattle.osl_typed.specs.declared.expr.Root.TheVariants as root
 use Rattle.osl_typed.specs.declared.expr.Part.{Part}
 use Rattle.osl_typed.specs.declared.shader.TypedStructure.{TypedStructure}
 use Rattle.osl_typed.specs.Frames.{leaf_count, leaves_before, place_of, kind_in}
-use Rattle.osl_typed.specs.State.{State, ExpressionEnd, Gives, Stops, leaves_at, write_leaves, write_global, noted}
+use Rattle.osl_typed.specs.State.{State, ExpressionEnd, Gives, Spent, leaves_at, write_leaves, write_global, noted}
 
 -- what the variables of a body are: the structures, the kinds of the frame, and which are connected
 pub record Frame : Type 0 where
@@ -45,7 +45,7 @@ field_leaves frame kind part vs = take (part_leaves frame part) (drop (leaves_be
 
 -- ---- elements and components of one leaf
 
-abbrev matrix_element : AnyValue → AnyValue → List AnyValue → AnyValue
+abbrev pub matrix_element : AnyValue → AnyValue → List AnyValue → AnyValue
 matrix_element v row [] = v
 matrix_element v row (column ∷ rest) = apply MxCompRef (only Float) (v ∷ row ∷ column ∷ [])
 
@@ -57,7 +57,7 @@ selected ty v (i ∷ indices) =
     else if is_only Matrix ty then matrix_element v i indices
     else apply CompRef (only Float) (v ∷ i ∷ [])
 
-abbrev with_matrix_element : Ty → AnyValue → AnyValue → List AnyValue → AnyValue → AnyValue
+abbrev pub with_matrix_element : Ty → AnyValue → AnyValue → List AnyValue → AnyValue → AnyValue
 with_matrix_element ty v row [] x = v
 with_matrix_element ty v row (column ∷ rest) x = apply MxCompAssign ty (v ∷ row ∷ column ∷ x ∷ [])
 
@@ -72,7 +72,7 @@ with_selected ty v (i ∷ indices) x =
 
 -- ---- parts
 
-abbrev named_component : Option ℕ → List AnyValue
+abbrev pub named_component : Option ℕ → List AnyValue
 named_component None = []
 named_component (Some c) = int_of c ∷ []
 
@@ -80,7 +80,7 @@ named_component (Some c) = int_of c ∷ []
 abbrev pub all_indices : Part → List AnyValue → List AnyValue
 all_indices part indices = indices ++ named_component part.component
 
-abbrev selected_of : Kind → List AnyValue → List AnyValue → List AnyValue
+abbrev pub selected_of : Kind → List AnyValue → List AnyValue → List AnyValue
 selected_of (Value ty) vs indices = selected ty (single vs) indices ∷ []
 selected_of _ vs indices = vs
 
@@ -88,7 +88,7 @@ selected_of _ vs indices = vs
 abbrev pub selection : Part → List AnyValue → List AnyValue → List AnyValue
 selection part vs indices = selected_of part.kind vs (all_indices part indices)
 
-abbrev with_selected_of : Kind → List AnyValue → List AnyValue → List AnyValue → List AnyValue
+abbrev pub with_selected_of : Kind → List AnyValue → List AnyValue → List AnyValue → List AnyValue
 with_selected_of (Value ty) vs indices xs = with_selected ty (single vs) indices (single xs) ∷ []
 with_selected_of _ vs indices xs = xs
 
@@ -98,8 +98,8 @@ with_selection part vs indices xs = with_selected_of part.kind vs (all_indices p
 -- ---- reading
 
 -- a connected parameter holds its source's output, and is noted when it is read; nothing ends the run
-abbrev read_input : Input → ℕ → List AnyValue → State → ExpressionEnd (List AnyValue)
-read_input (From None) k own s = Stops (noted k s)
+abbrev pub read_input : Input → ℕ → List AnyValue → State → ExpressionEnd (List AnyValue)
+read_input (From None) k own s = Spent (noted k s)
 read_input (From (Some v)) k own s = Gives (v ∷ []) (noted k s)
 read_input (Fixed v) k own s = Gives own s
 read_input Default k own s = Gives own s

@@ -45,7 +45,7 @@ with_variable name kind writable scope = record {
 abbrev pub enter : Scope → Scope
 enter scope = record { bindings = scope.bindings; depth = scope.depth + 1; kinds = scope.kinds }
 
--- behind a block all names mean what they meant before it; its variables keep their numbers
+-- after a block all names mean what they meant before it; its variables keep their numbers
 abbrev pub leave : Scope → Scope → Scope
 leave scope inner = record { bindings = scope.bindings; depth = scope.depth; kinds = inner.kinds }
 

@@ -1,4 +1,4 @@
--- What the tables of the measure stand for.
+-- What the tables of the measure mean.
 use Rattle.std.specs.Prelude.{length}
 use Rattle.osl_typed.specs.declared.tables.Tables.{Tables}
 use Rattle.osl_typed.specs.Sizes.{Scale, calls_below}

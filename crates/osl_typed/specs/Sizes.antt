@@ -110,7 +110,7 @@ part_weight structures kind a part indices =
 
 -- ---- expressions
 
--- where the nodes of a body stand: the structures, the kinds of its frame, and what a call of each function adds
+-- what the nodes of a body are weighed by: the structures, the kinds of its frame, and what a call of each function adds
 pub record Scale : Type 0 where
   pub structures : List TypedStructure
   pub kinds : List Kind

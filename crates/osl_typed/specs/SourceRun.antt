@@ -1,7 +1,8 @@
 -- A layer run from its source (OSL specification, sections "Shader parameters" and "Global variables").
 use Rattle.std.specs.Prelude.{ℕ, false, nat_lt, ◌+◌, if◌then◌else◌, List, [], ◌∷◌, length, Option, None, Some, slice_get}
+use Rattle.std.specs.List.{flat_map}
 use Rattle.osl_value.specs.declared.point.Point.{Point}
-use Rattle.osl_value.specs.AnyValue.{AnyValue, Parts, parts_of, zero_value}
+use Rattle.osl_value.specs.AnyValue.{AnyValue, parts_of, zero_value}
 use Rattle.osl_overload.specs.declared.signature.Kind.TheVariants.{Value}
 use Rattle.osl_layer.specs.Layer.{Input, From, Fixed, Default, Inputs, LayerEnd}
 use Rattle.osl_layer.specs.Globals.{global_at}
@@ -9,7 +10,7 @@ use Rattle.osl_typed.specs.Ends.{StatementEnd, Doing, Next, Breaks, Continues, R
 use Rattle.osl_layer.specs.declared.global.GlobalName.TheVariants.{Ci}
 use Rattle.osl_typed.specs.declared.shader.TypedParam.{TypedParam}
 use Rattle.osl_typed.specs.declared.shader.TypedShader.{TypedShader}
-use Rattle.osl_typed.specs.Frames.{place_of}
+use Rattle.osl_typed.specs.Frames.{leaves_of, zero_leaves, place_of}
 use Rattle.osl_typed.specs.State.{State, write_leaves}
 use Rattle.osl_typed.specs.Parts.{Frame}
 use Rattle.osl_typed.specs.Expressions.{Calls}
@@ -17,19 +18,21 @@ use Rattle.osl_typed.specs.Statements.{with_value, begun, exec_all, below}
 
 -- ---- the start
 
--- a parameter with an instance value holds it from the start, and the others are zero
-abbrev start_value : TypedParam → Input → AnyValue
+-- a parameter with an instance value holds it from the start, and all other variables are zero
+abbrev pub start_value : TypedParam → Input → AnyValue
 start_value param (From source) = zero_value param.ty
 start_value param (Fixed v) = v
 start_value param Default = zero_value param.ty
 
-abbrev value_of_param : Option TypedParam → Input → AnyValue
-value_of_param None input = Parts []
-value_of_param (Some param) input = start_value param input
+-- what a leaf holds: a parameter is one leaf, and has the first places
+abbrev pub started_leaf : Option TypedParam → Input → AnyValue → AnyValue
+started_leaf None input other = other
+started_leaf (Some param) input other = start_value param input
 
 abbrev pub start_of : TypedShader → Inputs → Point → ℕ → State
 start_of t inputs point budget =
-    record { vars = λ k. value_of_param (slice_get t.params k) (inputs k); globals = global_at point; turns = budget; reads = λ k. false }
+    let zeros = zero_leaves (flat_map (leaves_of t.structures) t.frame) in
+    record { vars = λ k. started_leaf (slice_get t.params k) (inputs k) (zeros k); globals = global_at point; turns = budget; reads = λ k. false }
 
 -- ---- the run
 

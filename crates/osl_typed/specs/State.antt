@@ -64,16 +64,16 @@ with_turns n s = record { vars = s.vars; globals = s.globals; turns = n; reads =
 
 -- ---- ends
 
--- An expression gives what it is asked for, or the layer ends in it, or the budget is spent or an input missing.
+-- An expression gives what it is asked for, or it leaves the layer, or its run is spent: the budget is, or an input that it reads is missing.
 pub data ExpressionEnd (A : Type 0) : Type 0 where
   Gives : A → State → ExpressionEnd A
-  Leaves : State → ExpressionEnd A
-  Stops : State → ExpressionEnd A
+  Exits : State → ExpressionEnd A
+  Spent : State → ExpressionEnd A
 
 abbrev pub then_value : {A B : Type 0} → ExpressionEnd A → (A → State → ExpressionEnd B) → ExpressionEnd B
 then_value (Gives a s) go = go a s
-then_value (Leaves s) go = Leaves s
-then_value (Stops s) go = Stops s
+then_value (Exits s) go = Exits s
+then_value (Spent s) go = Spent s
 
 -- one after the other, from left to right
 unfoldable pub in_order : {A B : Type 0} → List (State → ExpressionEnd A) → State → (List A → State → ExpressionEnd B) → ExpressionEnd B

@@ -20,8 +20,9 @@ use Rattle.osl_typed.specs.declared.stmt.TypedStmt.{TypedStmt, TypedStmt-F, fold
 use Rattle.osl_typed.specs.declared.stmt.TypedStmt.TheOpen as s
 use Rattle.osl_typed.specs.declared.shader.TypedStructure.{TypedStructure}
 use Rattle.osl_typed.specs.declared.shader.TypedFunction.{TypedFunction}
-use Rattle.osl_typed.specs.Frames.{leaf_count, zeros_of, place_of}
-use Rattle.osl_typed.specs.State.{State, Environment, Globals, Reads, ExpressionEnd, Gives, Leaves, Stops, in_order, leaves_at, with_leaves, write_leaves}
+use Rattle.osl_typed.specs.Frames.{leaf_count, leaves_of, zeros_of, zero_leaves, place_of}
+use Rattle.osl_typed.specs.State as expression
+use Rattle.osl_typed.specs.State.{State, Environment, Globals, Reads, ExpressionEnd, Gives, in_order, leaves_at, with_leaves, write_leaves}
 use Rattle.osl_typed.specs.Parts.{Frame, single, int_of}
 use Rattle.osl_typed.specs.Expressions.{Meaning, Calls, Called, Came, Left, Lost, holds, eval}
 
@@ -29,19 +30,19 @@ use Rattle.osl_typed.specs.Expressions.{Meaning, Calls, Called, Came, Left, Lost
 
 abbrev pub with_value : {A : Type 0} → ExpressionEnd A → (A → State → StatementEnd) → StatementEnd
 with_value (Gives a s) go = go a s
-with_value (Leaves s) go = Exits s
-with_value (Stops s) go = Spent s
+with_value (expression.Exits s) go = Exits s
+with_value (expression.Spent s) go = Spent s
 
 abbrev pub tested : ExpressionEnd (List AnyValue) → Tested
 tested (Gives v s) = if holds v then Holds s else Fails s
-tested (Leaves s) = Ends (Exits s)
-tested (Stops s) = Ends (Spent s)
+tested (expression.Exits s) = Ends (Exits s)
+tested (expression.Spent s) = Ends (Spent s)
 
 -- an expression for what it does
 abbrev pub done : Meaning → Doing
 done e s = with_value (e s) (λ v s1. Next s1)
 
--- ---- what a variable begins with
+-- ---- initialisers
 
 -- an array with these elements from the k-th on
 unfoldable pub with_elements : Ty → ℕ → List AnyValue → AnyValue → AnyValue
@@ -60,8 +61,8 @@ begun frame calls kind (init.Expr a) s = eval frame calls a s
 begun frame calls kind (init.List items) s =
     in_order (map (eval frame calls) items) s (λ vs s1. Gives (listed frame.structures kind vs) s1)
 
--- a declaration without a beginning gives zero, each time
-abbrev begun_or_zero : Frame → Calls → Kind → Option TypedInit → Meaning
+-- a declaration without an initialiser gives zero, each time
+abbrev pub begun_or_zero : Frame → Calls → Kind → Option TypedInit → Meaning
 begun_or_zero frame calls kind None s = Gives (zeros_of frame.structures kind) s
 begun_or_zero frame calls kind (Some x) s = begun frame calls kind x s
 
@@ -77,7 +78,7 @@ declared_all frame calls ds = in_turn (map (declared frame calls) ds)
 abbrev pub decided : Meaning → Doing → Doing → Doing
 decided c a b s = with_value (c s) (λ v s1. if holds v then a s1 else b s1)
 
-abbrev or_nothing : Option Doing → Doing
+abbrev pub or_nothing : Option Doing → Doing
 or_nothing None s = Next s
 or_nothing (Some a) s = a s
 
@@ -129,7 +130,7 @@ finals_from structures at (formal ∷ formals) vars =
     let count = leaf_count structures formal.kind in
     leaves_at vars at count ∷ finals_from structures (at + count) formals vars
 
-abbrev came : List TypedStructure → TypedFunction → List AnyValue → State → Called
+abbrev pub came : List TypedStructure → TypedFunction → List AnyValue → State → Called
 came structures f result s = Came result (finals_from structures 0 f.formals s.vars) s.turns s.reads
 
 -- a body that ends without `return` gives zero
@@ -141,15 +142,20 @@ call_end structures f (Returns v s) = came structures f v s
 call_end structures f (Exits s) = Left s.turns s.reads
 call_end structures f (Spent s) = Lost s.turns s.reads
 
--- a body begins in an environment of its own, with the formal parameters and the globals as they stand
-abbrev pub entered : List (List AnyValue) → Globals → ℕ → Reads → State
-entered args globals turns reads =
-    record { vars = with_leaves 0 (flat_map (λ arg. arg) args) (λ k. Parts []); globals = globals; turns = turns; reads = reads }
+-- the types of the leaves of a function's variables
+abbrev pub frame_types : List TypedStructure → Option TypedFunction → List Ty
+frame_types structures None = []
+frame_types structures (Some f) = flat_map (leaves_of structures) f.frame
+
+-- A body begins in an environment of its own: the formal parameters hold the arguments, and its other variables zero. It sees the globals as they are.
+abbrev pub entered : List Ty → List (List AnyValue) → Globals → ℕ → Reads → State
+entered types args globals turns reads =
+    record { vars = with_leaves 0 (flat_map (λ arg. arg) args) (zero_leaves types); globals = globals; turns = turns; reads = reads }
 
 abbrev pub function_frame : List TypedStructure → TypedFunction → Frame
 function_frame structures f = record { structures = structures; kinds = f.frame; inputs = λ k. Default }
 
-abbrev run_function : List TypedStructure → Calls → Option TypedFunction → State → Called
+abbrev pub run_function : List TypedStructure → Calls → Option TypedFunction → State → Called
 run_function structures calls None s = Lost s.turns s.reads
 run_function structures calls (Some f) s = call_end structures f (exec_all (function_frame structures f) calls f.body s)
 
@@ -157,5 +163,5 @@ run_function structures calls (Some f) s = call_end structures f (exec_all (func
 unfoldable pub below : List TypedStructure → List TypedFunction → ℕ → Calls
 below structures functions zero f args globals turns reads = Lost turns reads
 below structures functions (suc n) f args globals turns reads =
-    if f == n then run_function structures (below structures functions n) (slice_get functions n) (entered args globals turns reads)
+    if f == n then run_function structures (below structures functions n) (slice_get functions n) (entered (frame_types structures (slice_get functions n)) args globals turns reads)
     else below structures functions n f args globals turns reads

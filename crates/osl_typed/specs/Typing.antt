@@ -28,8 +28,8 @@ use Rattle.osl_typed.specs.declared.expr.Argument.{Argument}
 use Rattle.osl_typed.specs.declared.expr.Argument.TheVariants.{In, Out}
 use Rattle.osl_typed.specs.declared.expr.Part.{Part}
 use Rattle.osl_typed.specs.declared.expr.Root.{Root}
-use Rattle.osl_typed.specs.declared.expr.Step.{Step}
-use Rattle.osl_typed.specs.declared.expr.Step.TheVariants.{IncrementFirst, DecrementFirst, IncrementAfter, DecrementAfter}
+use Rattle.osl_typed.specs.declared.expr.Increment.{Increment}
+use Rattle.osl_typed.specs.declared.expr.Increment.TheVariants.{PreIncrement, PreDecrement, PostIncrement, PostDecrement}
 use Rattle.osl_typed.specs.declared.expr.TypedExpr.{TypedExpr}
 use Rattle.osl_typed.specs.declared.expr.TypedExpr.TheVariants as e
 use Rattle.osl_typed.specs.declared.found.Binding.{Binding}
@@ -102,7 +102,7 @@ variable b = found (Place b.root b.writable (whole_of b.kind) []) b.kind
 abbrev pub expression : Found → Option Found
 expression a = if a.is_row then None else Some a
 
--- ---- what stands where a kind is wanted
+-- ---- an expression where a kind is wanted
 
 abbrev pub promotion_to : Kind → TypedExpr → Option TypedExpr
 promotion_to (Value ty) a = Some (e.Promote ty a)
@@ -217,7 +217,7 @@ whole_variable (Place root writable part indices) = if writable && is_whole part
 whole_variable _ = None
 
 -- `++` and `--` take a whole variable, of ints or of floats, that may be assigned
-abbrev pub stepped : Step → Found → Option Found
+abbrev pub stepped : Increment → Found → Option Found
 stepped step a = do
   b ← expression a
   ty ← plain_type b.kind
@@ -230,12 +230,12 @@ prefixed before.Minus a = applied op.Neg a is_arithmetic (λ ty. ty)
 prefixed before.Plus a = applied op.Assign a is_arithmetic (λ ty. ty)
 prefixed before.Complement a = applied op.Compl a (is_only Int) (λ ty. ty)
 prefixed before.Not a = applied op.Not a is_number (λ ty. only Int)
-prefixed before.Increment a = stepped IncrementFirst a
-prefixed before.Decrement a = stepped DecrementFirst a
+prefixed before.Increment a = stepped PreIncrement a
+prefixed before.Decrement a = stepped PreDecrement a
 
 unfoldable pub postfixed : PostfixOp → Found → Option Found
-postfixed after.Increment a = stepped IncrementAfter a
-postfixed after.Decrement a = stepped DecrementAfter a
+postfixed after.Increment a = stepped PostIncrement a
+postfixed after.Decrement a = stepped PostDecrement a
 
 -- a value made another one of this type
 abbrev pub converted : Ty → Found → Option Found

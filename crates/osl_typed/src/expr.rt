@@ -15,7 +15,7 @@ pub enum Root {
 }
 
 /// The way from a variable or a value to a part of it: first fields of structures, then indices
-/// (which are expressions, and stand beside it), then a component that is named.
+/// (which are expressions, and are kept beside it), then a component that is named.
 #[derive(Drop)]
 pub struct Part {
     /// The fields, each by its number in its structure, from the outermost structure on.
@@ -24,21 +24,21 @@ pub struct Part {
     /// The kind of what the fields lead to.
     pub kind: Kind,
 
-    /// The number of the component behind all indices: 0 for `.x` or `.r`, up to 2.
+    /// The number of the component after all indices: 0 for `.x` or `.r`, up to 2.
     pub component: Option<u32>,
 }
 
 /// What `++` and `--` do, and which value they give.
 #[derive(Clone, Copy, Debug, PartialEq, Eq)]
-pub enum Step {
+pub enum Increment {
     /// `++x`, which gives the new value.
-    IncrementFirst,
+    PreIncrement,
     /// `--x`
-    DecrementFirst,
+    PreDecrement,
     /// `x++`, which gives the old value.
-    IncrementAfter,
+    PostIncrement,
     /// `x--`
-    DecrementAfter,
+    PostDecrement,
 }
 
 /// An expression, its names tied to their declarations, its calls to their functions, and its
@@ -56,7 +56,7 @@ pub enum TypedExpr {
     PartOf(Kind, Boxed<TypedExpr>, Part, Items<TypedExpr>),
     /// `(a)`, of this kind.
     Paren(Kind, Boxed<TypedExpr>),
-    /// A value where this type is wanted and another one stands.
+    /// A value of another type where this one is wanted.
     Promote(Ty, Boxed<TypedExpr>),
     /// An operation, with the type that it gives and its operands. Casts, constructors and built-in
     /// functions are operations too.
@@ -72,7 +72,7 @@ pub enum TypedExpr {
     /// `x += a` and the like: the operation of x and a, and the type that it gives.
     Update(OpName, Ty, Root, Part, Items<TypedExpr>, Boxed<TypedExpr>),
     /// `++x` and the like, on a whole variable of this type.
-    Step(Step, Ty, Root),
+    Step(Increment, Ty, Root),
     /// A call of the declared function of this number, which gives this kind.
     Call(u32, Kind, Items<Argument>),
     /// `exit()`

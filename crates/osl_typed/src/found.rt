@@ -32,7 +32,7 @@ pub enum Callee {
     Exit,
 }
 
-/// An expression, as its suffixes build it up. Trees are boxed: a form is small, and is let go by few calls.
+/// An expression, as its suffixes build it up. Trees are boxed to keep a form small and cheap to drop.
 #[derive(Drop)]
 pub enum Form {
     /// A variable or a part of one, and whether it may be assigned.
@@ -49,7 +49,7 @@ pub struct Found {
     pub form: Form,
     pub kind: Kind,
 
-    /// Whether it is the literal `0`, which may stand for the empty closure.
+    /// Whether it is the literal `0`, which may mean the empty closure.
     pub zero_literal: bool,
 
     /// Whether it is a row of a matrix: a matrix with one index, which is no expression yet.

@@ -17,7 +17,7 @@ mod tables;
 pub mod typed;
 pub mod types;
 
-pub use expr::{Argument, Part, Root, Step, TypedExpr};
+pub use expr::{Argument, Increment, Part, Root, TypedExpr};
 pub use found::{Binding, Callee, Form, Found};
 pub use shader::{TypedDatum, TypedFunction, TypedParam, TypedShader, TypedStructure};
 pub use sizes::Sizes;

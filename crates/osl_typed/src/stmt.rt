@@ -4,7 +4,7 @@ use crate::expr::TypedExpr;
 use osl_overload::Kind;
 use sqlite_items::{Boxed, Items};
 
-/// What a variable or a parameter begins with.
+/// An initialiser: of a variable, a parameter or a datum.
 #[derive(Drop)]
 pub enum TypedInit {
     Expr(TypedExpr),
@@ -12,8 +12,8 @@ pub enum TypedInit {
     List(Items<TypedExpr>),
 }
 
-/// A variable that is declared: its number in the frame, its kind, and what it begins with. Without
-/// that it begins as zero, each time that the declaration is executed.
+/// A variable that is declared: its number in the frame, its kind, and its initialiser. Without one
+/// it begins as zero, each time that the declaration is executed.
 #[derive(Drop)]
 pub struct Declared {
     pub number: u32,
@@ -21,7 +21,7 @@ pub struct Declared {
     pub init: Option<TypedInit>,
 }
 
-/// What a `for` begins with.
+/// The first part of a `for`.
 #[derive(Drop)]
 pub enum TypedForStart {
     Nothing,

@@ -14,7 +14,7 @@ use Rattle.osl_tree.specs.declared.expr.AssignOp.{AssignOp}
 use Rattle.osl_tree.specs.declared.expr.BinaryOp.{BinaryOp}
 use Rattle.osl_typed.specs.declared.expr.Argument.{Argument}
 use Rattle.osl_typed.specs.declared.expr.Argument.TheVariants.{Out}
-use Rattle.osl_typed.specs.declared.expr.Step.{Step}
+use Rattle.osl_typed.specs.declared.expr.Increment.{Increment}
 use Rattle.osl_typed.specs.declared.expr.TypedExpr.{TypedExpr}
 use Rattle.osl_typed.specs.declared.expr.TypedExpr.TheVariants as e
 use Rattle.osl_typed.specs.declared.found.Form.{Form}
@@ -75,7 +75,7 @@ negation a = do
   Some (apply_one op.Not (only Int) b)
 
 -- `++` or `--` on an expression
-abbrev pub step_of : Step → Found → Option Found
+abbrev pub step_of : Increment → Found → Option Found
 step_of step b = do
   ty ← plain_type b.kind
   ok ← when (is_number ty)
@@ -118,7 +118,7 @@ field number kind a = found (with_field a.kind number kind a.form) kind
 abbrev pub target_of : Place → Target
 target_of place = record { root = place.root; part = place.part; indices = place.indices }
 
--- a value of a type may stand where a kind is wanted
+-- a value of a type fits where a kind is wanted
 abbrev pub fits : Ty → Kind → Bool
 fits ty wanted = is_some (cost (record { kind = Value ty; zero_literal = false; writable = false }) wanted)
 

@@ -15,7 +15,7 @@ use crate::kinds::{
 };
 use osl_overload::Kind;
 use osl_tree::expr::{BaseType, BinaryOp, PostfixOp, PrefixOp};
-use osl_typed::{Form, Found, Part, Root, Step, TypedExpr, types};
+use osl_typed::{Form, Found, Increment, Part, Root, TypedExpr, types};
 use osl_value::{Base, OpName, Ty};
 use sqlite_items::Items;
 use std::alloc::Global;
@@ -95,7 +95,7 @@ fn whole_variable(form: &Form) -> Result<Root, TypeError>
 }
 
 /// `++` or `--` on an expression.
-fn step_of(alloc: Global, step: Step, b: &Found) -> Result<Found, TypeError>
+fn step_of(alloc: Global, step: Increment, b: &Found) -> Result<Found, TypeError>
     ensures { Says (pieces.step_of step b.now) result }
 {
     let ty = plain_type(b.kind)?;
@@ -105,7 +105,7 @@ fn step_of(alloc: Global, step: Step, b: &Found) -> Result<Found, TypeError>
 }
 
 /// `++` or `--`, on a whole variable of ints or of floats.
-fn stepped(alloc: Global, step: Step, a: Found) -> Result<Found, TypeError>
+fn stepped(alloc: Global, step: Increment, a: Found) -> Result<Found, TypeError>
     ensures { Says (spec.stepped step a) result }
 {
     let b = expression(a)?;
@@ -122,19 +122,19 @@ pub fn prefixed(alloc: Global, operator: PrefixOp, a: Found) -> Result<Found, Ty
         PrefixOp::Plus => signed(alloc, OpName::Assign, a),
         PrefixOp::Complement => complement(alloc, a),
         PrefixOp::Not => negation(alloc, a),
-        PrefixOp::Increment => stepped(alloc, Step::IncrementFirst, a),
-        PrefixOp::Decrement => stepped(alloc, Step::DecrementFirst, a),
+        PrefixOp::Increment => stepped(alloc, Increment::PreIncrement, a),
+        PrefixOp::Decrement => stepped(alloc, Increment::PreDecrement, a),
     }
 }
 
-/// An operator behind its operand.
+/// An operator after its operand.
 #[tactic(auto, unfolding(osl_typed::specs::Typing::postfixed))]
 pub fn postfixed(alloc: Global, operator: PostfixOp, a: Found) -> Result<Found, TypeError>
     ensures { Says (spec.postfixed operator a) result }
 {
     match operator {
-        PostfixOp::Increment => stepped(alloc, Step::IncrementAfter, a),
-        PostfixOp::Decrement => stepped(alloc, Step::DecrementAfter, a),
+        PostfixOp::Increment => stepped(alloc, Increment::PostIncrement, a),
+        PostfixOp::Decrement => stepped(alloc, Increment::PostDecrement, a),
     }
 }
 

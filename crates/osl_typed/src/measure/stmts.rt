@@ -19,7 +19,7 @@ const STATEMENT: Weight = Weight {
     calls: 0,
 };
 
-/// What a variable or a parameter of a kind begins with.
+/// The initialiser of a variable or a parameter of a kind.
 pub(crate) fn init(tables: &Tables, kind: Kind, init: &TypedInit) -> Weight
     ensures { result ≡ cut (spec.init_weight (seen tables.now) kind init.now) }
 {

@@ -2,7 +2,7 @@
 
 use crate::shape::Shape;
 use osl_overload::Kind;
-use osl_typed::{Argument, Part, Root, Step, TypedExpr};
+use osl_typed::{Argument, Increment, Part, Root, TypedExpr};
 use osl_value::{Memory, OpName, Ty};
 
 /// Whether an index or a component is taken.
@@ -11,12 +11,12 @@ fn is_part(part: &Part, indices: &[TypedExpr]) -> bool {
 }
 
 /// How a step is written.
-fn step_text(step: Step) -> &'static str {
+fn step_text(step: Increment) -> &'static str {
     match step {
-        Step::IncrementFirst => "++x",
-        Step::DecrementFirst => "--x",
-        Step::IncrementAfter => "x++",
-        Step::DecrementAfter => "x--",
+        Increment::PreIncrement => "++x",
+        Increment::PreDecrement => "--x",
+        Increment::PostIncrement => "x++",
+        Increment::PostDecrement => "x--",
     }
 }
 
@@ -72,7 +72,7 @@ impl Shape {
 
 /// Expressions.
 impl Shape {
-    fn step(&mut self, step: Step, ty: Ty, root: Root) -> Result<(), Memory> {
+    fn step(&mut self, step: Increment, ty: Ty, root: Root) -> Result<(), Memory> {
         self.open_of(step_text(step), Kind::Value(ty))?;
         self.root(root)?;
         self.close()
