@@ -6,7 +6,7 @@ use Rattle.osl_value.specs.declared.op_name.OpName.TheVariants as op
 use Rattle.osl_value.specs.declared.types.Base.{Base}
 use Rattle.osl_value.specs.declared.types.Base.TheVariants as base
 use Rattle.osl_value.specs.declared.types.Ty.{Ty}
-use Rattle.osl_value.specs.AnyValue.{AnyValue, numbers_of, texts_of}
+use Rattle.osl_value.specs.AnyValue.{numbers_of, texts_of}
 use Rattle.osl_value.specs.Apply.{apply}
 use Rattle.osl_value.specs.Types.{only}
 use Rattle.osl_overload.specs.declared.signature.Kind.TheVariants.{Value}
@@ -14,7 +14,7 @@ use Rattle.osl_typed.specs.declared.shader.TypedDatum.{TypedDatum}
 use Rattle.osl_typed.specs.declared.stmt.TypedInit.TheVariants as init
 use Rattle.osl_typed.specs.Expressions.{Meaning}
 use Rattle.osl_typed.specs.Metadata.{no_frame, no_calls, no_state, value_given, datum_value, datum_numbers, datum_texts}
-use Rattle.osl_typed.specs.State.{State, Gives, in_order}
+use Rattle.osl_typed.specs.State.{Gives, in_order}
 use Rattle.osl_typed.specs.Statements.{listed, with_elements}
 use Rattle.osl_typed.proofs.Written as w
 

@@ -1,5 +1,5 @@
 -- Weights that are cut to one above the limits: cutting the parts first changes nothing.
-use Rattle.std.proofs.Common.{◌≡◌, ℕ, ◌+◌, ◌<◌, ◌≤◌, min, max, Bool, false, List, [], ◌∷◌, length, get_or, drop, refl, ap, sym, ◌∙◌, arith}
+use Rattle.std.proofs.Common.{◌≡◌, ℕ, ◌+◌, ◌<◌, ◌≤◌, min, max, Bool, false, List, ◌∷◌, length, get_or, drop, ap, sym, ◌∙◌, arith}
 use Rattle.std.proofs.lemmas.List.{drop_more, drop_all, length-map}
 use Rattle.std.specs.Prelude.{map, slice_index_or}
 use Rattle.osl_overload.specs.declared.signature.Kind.{Kind}

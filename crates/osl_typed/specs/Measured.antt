@@ -13,7 +13,7 @@ use Rattle.osl_typed.specs.declared.sizes.Leaves.{Leaves}
 use Rattle.osl_typed.specs.declared.sizes.Sizes.{Sizes}
 use Rattle.osl_typed.specs.declared.sizes.Weight.{Weight}
 use Rattle.osl_typed.specs.Frames.{leaves_below}
-use Rattle.osl_typed.specs.Sizes.{◌&◌, nothing, or_nothing, all_of, bare, valued, held, selections, selected_types, field_kinds, root_kind, calls_below, size_of, slots_of, calls_of, most_size, most_slots, most_calls, longest_name}
+use Rattle.osl_typed.specs.Sizes.{◌&◌, or_nothing, all_of, bare, valued, held, selections, selected_types, field_kinds, root_kind, calls_below, size_of, slots_of, calls_of, most_size, most_slots, most_calls, longest_name}
 
 -- ---- weights
 

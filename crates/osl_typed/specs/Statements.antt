@@ -3,7 +3,7 @@ use Rattle.std.specs.Prelude.{ℕ, zero, suc, ◌+◌, ◌==◌, true, false, if
 use Rattle.std.specs.List.{flat_map}
 use Rattle.osl_value.specs.declared.op_name.OpName.TheVariants.{AAssign}
 use Rattle.osl_value.specs.declared.types.Ty.{Ty}
-use Rattle.osl_value.specs.AnyValue.{AnyValue, Parts, zero_value}
+use Rattle.osl_value.specs.AnyValue.{AnyValue, zero_value}
 use Rattle.osl_value.specs.Apply.{apply}
 use Rattle.osl_overload.specs.declared.signature.Kind.{Kind}
 use Rattle.osl_overload.specs.declared.signature.Kind.TheVariants.{Value}

@@ -1,4 +1,4 @@
-use Rattle.std.proofs.Common.{rules, arith, ap, sym, ◌∙◌}
+use Rattle.std.proofs.Common.{arith, ap, sym, ◌∙◌}
 use Rattle.osl_typed.specs.Measured.{cut}
 use Rattle.osl_typed.specs.Sizes.{◌&◌}
 use Rattle.osl_typed.proofs.Weights.{one_field, no_field, all_summed, cut_twice}
