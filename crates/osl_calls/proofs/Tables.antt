@@ -1,4 +1,4 @@
--- The functions of a table: the built-in ones of a name stand before the declared ones.
+-- The functions of a table: the built-in ones of a name come before the declared ones.
 use Rattle.std.proofs.Common.{◌≡◌, codes, ℕ, ◌+◌, ◌<◌, Bool, true, false, cond, if◌then◌else◌, ◌&&◌, List, [], ◌∷◌, ◌++◌, length, drop, take, get_or, map, Some, None, Result, Ok, Err, OnOk, OnErr, refl, ap, sym, ◌∙◌, append-nil, append_assoc}
 use Rattle.std.specs.List.{filter, flat_map}
 use Rattle.std.specs.Str.{bytes_eq}

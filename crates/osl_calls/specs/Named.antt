@@ -1,4 +1,4 @@
--- The functions of one name: their signatures stand side by side, and so does what each of them calls.
+-- The functions of one name: their signatures side by side, and what each of them calls.
 use Rattle.std.specs.Prelude.{List, [], ◌∷◌}
 use Rattle.osl_overload.specs.declared.signature.Signature.{Signature}
 use Rattle.osl_typed.specs.declared.found.Callee.{Callee}

@@ -17,11 +17,11 @@ unfoldable pub held : Table → List ℕ → List Candidate
 held [] name = []
 held (entry ∷ entries) name = if bytes_eq name (entry.0) then entry.1 else held entries name
 
--- the functions that are declared: the built-in ones of a name stand before them
+-- the functions that are declared: the built-in ones of a name come before them
 unfoldable pub functions_of : Table → Functions
 functions_of table = λ name. drop (length (named_in lines name)) (held table name)
 
--- the built-in functions stand before the declared ones
+-- the built-in functions come before the declared ones
 unfoldable pub HasBuiltIns : Table → Type 0
 HasBuiltIns table = (name : List ℕ) → held table name ≡ named_in lines name ++ functions_of table name
 

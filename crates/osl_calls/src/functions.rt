@@ -20,7 +20,7 @@ use osl_typed::Callee;
 use std::alloc::{AllocError, Global};
 use std::marker::Model;
 
-/// The functions by name: the built-in ones, and behind them the declared ones. Contracts see the names with their
+/// The functions by name: the built-in ones, and after them the declared ones. Contracts see the names with their
 /// functions, of which `functions_of` has the declared ones.
 #[derive(Drop)]
 pub struct Functions {
@@ -47,7 +47,7 @@ impl Functions {
         Ok(Functions { table })
     }
 
-    /// Adds a declared function behind those of its name. Where memory is refused, or 2^32 - 1 functions have the name, all
+    /// Adds a declared function after those of its name. Where an allocation fails, or 2^32 - 1 functions have the name, all
     /// stays as it is.
     pub fn add(
         &mut self,

@@ -50,7 +50,7 @@ impl Named {
         }
     }
 
-    /// Adds a function behind the others. They stay as they are where memory is refused, or where 2^32 - 1 have the name.
+    /// Adds a function after the others. They stay as they are where an allocation fails, or where 2^32 - 1 have the name.
     pub(crate) fn push(&mut self, signature: Signature, callee: Callee) -> Result<(), AllocError>
         ensures ok { OnOk result (self.new ≡ self.old ++ candidate signature callee ∷ []) }
         ensures err { OnErr result (self.new ≡ self.old) }

@@ -14,7 +14,7 @@ use osl_typing::forms::root_of;
 use sqlite_items::at;
 use std::alloc::{AllocError, Global};
 
-/// The variables that are roots of the arguments so far, and whether each of them stands for an output.
+/// The variables that are roots of the arguments so far, and whether each of them is one of an output.
 #[derive(Drop)]
 struct Roots {
     variables: IndexMap<u32, bool>,

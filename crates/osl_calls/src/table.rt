@@ -44,7 +44,7 @@ impl Table {
         self.by_name.get(name)
     }
 
-    /// Adds a function of a name, behind the others.
+    /// Adds a function of a name, after the others.
     pub(crate) fn push(
         &mut self,
         alloc: Global,

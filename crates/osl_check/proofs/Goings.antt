@@ -1,4 +1,4 @@
--- Blocks, and what stands in the parentheses of a `for`.
+-- Blocks, and the parts in the parentheses of a `for`.
 use Rattle.std.proofs.Common.{◌≡◌, ℕ, Bool, true, length, map, refl, ap, sym, subst, ◌∙◌}
 use Rattle.std.specs.Prelude.{Option, None, Some}
 use Rattle.osl_names.specs.Kept.{Keeps}
@@ -21,7 +21,7 @@ pub statements_gathered : (around : Around) (in_loop : Bool) → IsGathered (λ 
 unfolding all_typed
 statements_gathered around in_loop = record { ends = λ scope. refl; takes = λ x xs scope. refl }
 
--- ---- behind a block
+-- ---- after a block
 
 -- what `Scope::leave` says
 abbrev pub Leaves : ℕ → Scope → Scope → Type 0
@@ -30,7 +30,7 @@ Leaves count inner new = (outer : Scope) → length outer.bindings ≡ count →
 pub left_is : (outer entered inner new : Scope) (count : ℕ) → entered ≡ enter outer → count ≡ length outer.bindings → Keeps entered inner → Leaves count inner new → new ≡ leave outer inner
 left_is outer entered inner new count is counted kept left = left outer (sym counted) (subst (λ scope. Keeps scope inner) is kept)
 
--- what was found in a block, seen behind it
+-- what was found in a block, seen after it
 abbrev pub behind_block : {A : Type 0} → Scope → Option (A × Scope) → Option (A × Scope)
 behind_block outer o = o >>= λ q. Some (q.0, leave outer (q.1))
 
@@ -46,7 +46,7 @@ left_keeps outer entered inner new count is counted kept left = subst (Keeps out
 
 -- ---- the parentheses of a `for`
 
--- the three parts, and the scope behind them
+-- the three parts, and the scope after them
 abbrev pub parts_of : {X Y : Type 0} → TypedForStart → Scope → Option X → Option Y → Option ((TypedForStart × X × Y) × Scope)
 parts_of begin scope x y = x >>= λ u. y >>= λ v. Some ((begin, u, v), scope)
 

@@ -1,4 +1,4 @@
--- A shader, from its metadata and from what stands inside it.
+-- A shader, from its metadata and from what is inside it.
 use Rattle.std.proofs.Common.{◌≡◌, false, List, map, sym, ◌∙◌}
 use Rattle.std.specs.Prelude.{Some}
 use Rattle.osl_overload.specs.declared.signature.Kind.{Kind}
@@ -30,7 +30,7 @@ shader_of tree above metadata framed = record {
   longest_text = (longest_of tree).text;
 }
 
--- the shader from its parameters and its body, each with the scope behind it
+-- the shader from its parameters and its body, each with the scope after it
 framed_is : (tree : Tree) (above : Above) (metadata : List TypedDatum)
     → (params_added above.sight tree.shader.params (enter (outermost (is_assignable_global tree.shader.kind))) >>= λ params.
     body_typed (record { sight = above.sight; result = Void }) tree.shader.body (params.1) >>= λ body. Some (shader_of tree above metadata (params.0, (body.1).kinds, body.0)))

@@ -8,7 +8,7 @@ pub bind_assoc : {A B C : Type 0} (o : Option A) (f : A → Option B) (g : B →
 bind_assoc None f g = refl
 bind_assoc (Some a) f g = refl
 
--- what goes on behind two answers goes on within
+-- what goes on after two answers goes on within
 pub within : {A B C D : Type 0} (o : Option A) (t : A → Option B) (f : A → B → Option C) (g : C → Option D)
     → ((o >>= λ a. t a >>= f a) >>= g) ≡ (o >>= λ a. t a >>= λ b. f a b >>= g)
 within None t f g = refl
@@ -20,7 +20,7 @@ at_hand xs i x below is = drop_more xs i x below ∙ ap (λ y. y ∷ drop (i + 1
 
 -- ---- a state is carried along, and each element gives something
 
--- these stand before what is to come
+-- these come before what is left
 abbrev pub behind : {Y S : Type 0} → List Y → Option (List Y × S) → Option (List Y × S)
 behind front o = o >>= λ rest. Some (front ++ rest.0, rest.1)
 

@@ -1,4 +1,4 @@
--- What the tables of the checker stand for.
+-- What the tables of the checker mean.
 use Rattle.osl_calls.specs.Table as tables
 use Rattle.osl_typed.specs.FileTyping.{Above}
 use Rattle.osl_typed.specs.Scopes.{Sight}

@@ -4,7 +4,7 @@ use Rattle.osl_typing.specs.declared.error.TypeError.{TypeError}
 use Rattle.osl_typing.specs.declared.error.TypeError.TheVariants.{Memory, NoTyping}
 use Rattle.osl_typed.specs.Scopes.{Scope}
 
--- what there is, with the scope behind it, or that there is nothing; want of memory says nothing
+-- what there is, with the scope after it, or that there is nothing; out of memory it says nothing
 abbrev pub Adds : {A : Type 0} → Option (A × Scope) → Result A TypeError → Scope → Type 0
 Adds o (Ok a) scope = o ≡ Some (a, scope)
 Adds o (Err NoTyping) scope = o ≡ None

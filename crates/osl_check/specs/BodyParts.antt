@@ -41,7 +41,7 @@ listed sight scope kind items = do
   all ← sequence (map (typing sight scope.bindings) items)
   fit_first kinds all
 
--- the items of such a list, the first of which stands at this place
+-- the items of such a list, the first of which has this place
 unfoldable pub placed : Sight → Scope → Kind → ℕ → List Expr → Option (List TypedExpr)
 placed sight scope kind place [] = Some []
 placed sight scope kind place (a ∷ items) = item_at sight scope kind place a >>= λ x. placed sight scope kind (place + 1) items >>= λ xs. Some (x ∷ xs)
@@ -61,11 +61,11 @@ around sight result = record { sight = sight; result = result }
 abbrev pub in_sight : Sight → Around
 in_sight sight = around sight Void
 
--- what stands in the parentheses of a `for`
+-- the parts in the parentheses of a `for`
 abbrev pub Heading : Type 0
 Heading = TypedForStart × Option TypedExpr × Option TypedExpr
 
--- its typed form, and the scope behind it
+-- its typed form, and the scope after it
 abbrev pub heading : Around → Scope → ForStart → Option Expr → Option Expr → Option (Heading × Scope)
 heading around scope first c step = do
   begin ← started around scope first

@@ -40,7 +40,7 @@ inside_function f sight returned scope = do
   body ← body_typed (record { sight = sight; result = returned }) f.body (enter (formals.1))
   Some ((formals.0, body.0), body.1)
 
--- a function, in what stands above it
+-- a function, by what is declared above it
 abbrev pub function_typed : Function → Sight → Option TypedFunction
 function_typed f sight = do
   result ← result_kind sight.structures f.result

@@ -1,4 +1,4 @@
-//! What stands above a place: the structures and the functions that are declared.
+//! What is declared above a place: the structures and the functions.
 
 use osl_calls::Functions;
 use osl_names::Structures;

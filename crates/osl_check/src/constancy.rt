@@ -57,7 +57,7 @@ fn are_constant(items: &[Expr]) -> bool
     true
 }
 
-/// Whether a parameter or a datum begins with a constant.
+/// Whether an initialiser is a constant.
 pub(crate) fn is_constant_init(init: &Init) -> bool
     ensures { result ≡ is_constant_init init.now }
 {

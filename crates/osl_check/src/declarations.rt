@@ -72,7 +72,7 @@ pub(crate) fn declared_kind(
     lengthened(plain_kind(structures, ty), len)
 }
 
-/// What stands where a kind is wanted.
+/// An expression where a kind is wanted.
 pub(crate) fn fitted(
     alloc: Global,
     sight: &Sight,
@@ -161,7 +161,7 @@ fn listed(
     placed(alloc, sight, scope, kind, items)
 }
 
-/// What a variable of this kind begins with.
+/// The initialiser of a variable of this kind.
 #[tactic(auto, unfolding(osl_typed::specs::BodyTyping::begun, crate::specs::BodyParts::listed))]
 pub(crate) fn begun(
     alloc: Global,
@@ -196,7 +196,7 @@ fn maybe_begun(
     }
 }
 
-/// A variable, of a type that makes this kind. It is declared behind what it begins with, if its name is not declared in
+/// A variable, of a type that makes this kind. It is in scope only after its initialiser, if its name is not declared in
 /// this very block.
 #[tactic(auto, unfolding(crate::specs::BodyParts::declare_one))]
 fn declare(

@@ -1,4 +1,4 @@
-//! Structures and functions, each added to what stands above it. OSL specification, sections "Structures" and
+//! Structures and functions, each added to what is declared above it. OSL specification, sections "Structures" and
 //! "Functions".
 
 ghost use Rattle.std.specs.Prelude.{◌≡◌};
@@ -174,7 +174,7 @@ fn inside(
     Ok((formals, body))
 }
 
-/// A function, in what stands above it.
+/// A function, by what is declared above it.
 fn typed_function(alloc: Global, f: &Function, sight: &Sight) -> Result<TypedFunction, TypeError>
     ensures { Says (parts.function_typed f.now (sight_of sight.now)) result }
 {
@@ -190,7 +190,7 @@ fn typed_function(alloc: Global, f: &Function, sight: &Sight) -> Result<TypedFun
     })
 }
 
-/// A function, with its name, among what stands above the next definition.
+/// A function, with its name, among what is declared above the next definition.
 #[tactic(auto, unfolding(osl_typed::specs::FileTyping::function_added))]
 fn add_function(alloc: Global, f: &Function, above: &mut Above) -> Result<(), TypeError>
     ensures { Gives (spec.function_added f.now (above_of above.old)) result (above_of above.new) }
@@ -241,7 +241,7 @@ fn add_definition(
     }
 }
 
-/// All structures and functions, each in what stands above it.
+/// All structures and functions, each by what is declared above it.
 #[tactic(auto, unfolding(osl_typed::specs::FileTyping::definitions_added))]
 pub(crate) fn add_definitions(
     alloc: Global,

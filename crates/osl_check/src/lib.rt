@@ -16,4 +16,5 @@ mod params;
 mod shader;
 mod statements;
 
+pub use osl_typing::TypeError;
 pub use shader::check;

@@ -1,8 +1,9 @@
-//! A whole source: what stands above its shader, and then the shader.
+//! A whole source: what is declared above its shader, and then the shader.
 
 ghost use Rattle.std.specs.Prelude.{◌≡◌, false, IfOk, Err};
 ghost use Rattle.osl_typed.specs.FileTyping as spec;
 ghost use Rattle.osl_typed.specs.FileTyping.{IsTypingOf};
+ghost use Rattle.osl_typed.specs.Sources.{IsTreeOfSource};
 ghost use Rattle.osl_typed.specs.Scopes.{outermost};
 ghost use Rattle.osl_typed.specs.declared.shader.TypedShader.{TypedShader};
 ghost use Rattle.osl_typing.specs.Says.{Says};
@@ -25,7 +26,7 @@ use osl_typing::TypeError;
 use sqlite_items::Items;
 use std::alloc::{AllocError, Global};
 
-/// Nothing stands above the first definition.
+/// Nothing is declared above the first definition.
 fn at_the_top(alloc: Global) -> Result<Above, AllocError>
     ensures { IfOk result (λ above. above_of above ≡ spec.at_the_top) }
 {
@@ -50,7 +51,7 @@ fn shader_metadata(
     metadata(alloc, sight, &outside, list)
 }
 
-/// The parameters and the body, whose outermost declarations stand in one block with the parameters.
+/// The parameters and the body, whose outermost declarations are in one block with the parameters.
 fn inside(
     alloc: Global,
     shader: &Shader,
@@ -78,7 +79,7 @@ fn framed(
     Ok((params, scope.into_kinds(), body))
 }
 
-/// The shader, in what stands above it.
+/// The shader, by what is declared above it.
 #[tactic(auto, using(crate::proofs::Shaders::shader_is))]
 fn shader_typed(
     alloc: Global,
@@ -119,11 +120,12 @@ fn typed(alloc: Global, tree: &Tree) -> Result<TypedShader, TypeError>
     shader_typed(alloc, tree, &sight, functions)
 }
 
-/// The typed tree of a syntax tree, with its sizes. `NoTyping` comes exactly where it has none, and `Memory` where memory
-/// was refused, or where more than 2^32 - 1 variables, structures, functions or fields of one structure are declared, or
-/// blocks stand in each other. Its recursion is as deep as the tree, of which `osl_parse` makes none that is higher than
-/// 256. OSL specification, sections "Shader types", "Shader parameters" and "Functions".
+/// The typed tree of the tree of a source, with its sizes. `NoTyping` comes exactly where it has none, and `Memory` where
+/// an allocation fails, or where more than 2^32 - 1 variables, structures, functions or fields of one structure are
+/// declared, or as many blocks are nested. Its recursion is as deep as the tree, which is no higher than 256. OSL
+/// specification, sections "Shader types", "Shader parameters" and "Functions".
 pub fn check(alloc: Global, tree: &Tree) -> Result<Typed, TypeError>
+    requires { IsTreeOfSource tree.now }
     ensures found { IfOk result (λ t. IsTypingOf tree.now t) }
     ensures none { result ≡ Err TypeError.NoTyping → (t : TypedShader) → IsTypingOf tree.now t → ⊥ }
 {

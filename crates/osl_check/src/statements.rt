@@ -88,7 +88,7 @@ fn returned(
     }
 }
 
-/// What a `for` begins with.
+/// The first part of a `for`.
 fn started(
     alloc: Global,
     sight: &Sight,
@@ -108,7 +108,7 @@ fn started(
     }
 }
 
-/// What stands in the parentheses of a `for`.
+/// The parts in the parentheses of a `for`.
 fn heading(
     alloc: Global,
     sight: &Sight,
@@ -254,7 +254,7 @@ fn all_typed(
     Ok(all)
 }
 
-/// A block: behind it all names mean what they meant before it.
+/// A block: after it all names mean what they meant before it.
 #[cycle(going)]
 fn block(
     alloc: Global,

@@ -11,11 +11,10 @@ ghost use Rattle.osl_job.specs.Source.{IsSource, IfShader};
 use crate::shader::read_shader;
 use crate::small::SmallShader;
 use crate::text::Stop;
-use osl_check::check;
+use osl_check::{TypeError, check};
 use osl_lex::{LexError, lex};
 use osl_parse::{SyntaxError, parse};
 use osl_tree::token::Token;
-use osl_typing::TypeError;
 use osl_value::Memory;
 use std::alloc::Global;
 

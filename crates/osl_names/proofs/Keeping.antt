@@ -22,7 +22,7 @@ keeps_with name kind writable s = record { more = _ ∷ []; bindings = refl; dep
 pub keeps_left : (outer inner : Scope) → Keeps outer (leave outer inner)
 keeps_left outer inner = record { more = []; bindings = refl; depth = refl }
 
--- behind what was put before it a list stands as it was
+-- after what was put before it a list is as it was
 behind : {A : Type 0} (all more rest : List A) → all ≡ more ++ rest → drop (length all - length rest) all ≡ rest
 behind all more rest e =
     let n : length all - length rest ≡ length more =

@@ -1,4 +1,4 @@
--- Names by their places, and what stands beside them.
+-- Names by their places, and what is kept beside them.
 use Rattle.std.proofs.Common.{◌≡◌, ℕ, zero, suc, ◌+◌, ◌<◌, Bool, true, false, cond, List, [], ◌∷◌, ◌++◌, length, map, slice_get, Option, Some, None, if◌then◌else◌, refl, ap, sym, ◌∙◌, subst, arith}
 use Rattle.std.specs.Prelude.{bytes_eq, option_map, ◌||◌, take, slice_index_or}
 use Rattle.std.proofs.Math.Seq.{take-suc}
@@ -36,7 +36,7 @@ any_map : {K : Type 0} (bytes : K → List ℕ) (test : List ℕ → Bool) (keys
 any_map bytes test [] = refl
 any_map bytes test (k ∷ keys) = ap (λ (b : Bool). test (bytes k) || b) (any_map bytes test keys)
 
--- a name that has no place goes behind the others
+-- a name that has no place goes after the others
 pub one_more_name : {K : Type 0} (bytes : K → List ℕ) (old new : List K) (key : K) (name : List ℕ) → bytes key ≡ name → position (bytes_eq name) (map bytes old) ≡ None
     → new ≡ cond (list_any (λ k. bytes_eq (bytes key) (bytes k)) old) old (old ++ key ∷ []) → map bytes new ≡ map bytes old ++ name ∷ []
 one_more_name bytes old new key name named none grown =
@@ -44,7 +44,7 @@ one_more_name bytes old new key name named none grown =
     ap (λ n. list_any (λ k. bytes_eq n (bytes k)) old) named ∙ any_map bytes (bytes_eq name) old ∙ none_from (bytes_eq name) (map bytes old) 0 (sym (position_from-zero (bytes_eq name) (map bytes old)) ∙ none) in
     ap (map bytes) (grown ∙ ap (λ (b : Bool). cond b old (old ++ key ∷ [])) no) ∙ map-append bytes old (key ∷ []) ∙ ap (λ (n : List ℕ). map bytes old ++ n ∷ []) named
 
--- ---- what stands beside a name
+-- ---- what is kept beside a name
 
 later : (test : List ℕ → Bool) (names : List (List ℕ)) (at : ℕ) → position_from test (at + 1) names ≡ option_map suc (position_from test at names)
 later test [] at = refl

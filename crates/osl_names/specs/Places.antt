@@ -1,4 +1,4 @@
--- Names, and what stands beside each.
+-- Names, and what is kept beside each.
 use Rattle.std.specs.Prelude.{ℕ, List, [], ◌∷◌}
 use Rattle.osl_overload.specs.declared.signature.Kind.{Kind}
 use Rattle.osl_typed.specs.Scopes.{FieldName, StructureName}

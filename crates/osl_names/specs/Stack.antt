@@ -13,7 +13,7 @@ unfoldable pub bindings_of : List Entry → List Binding
 bindings_of [] = []
 bindings_of (x ∷ xs) = x.binding ∷ bindings_of xs
 
--- where in the stack the innermost binding of a name stands
+-- where in the stack the innermost binding of a name is
 unfoldable pub newest : List ℕ → List Entry → Option ℕ
 newest w [] = None
 newest w (x ∷ xs) = if bytes_eq x.binding.name w then Some (length xs) else newest w xs

@@ -58,7 +58,7 @@ impl Fields {
         self.kinds.as_slice()
     }
 
-    /// Puts a field behind the others. They stay as they were where memory is refused.
+    /// Puts a field after the others. They stay as they were where an allocation fails.
     #[tactic(auto, using(crate::proofs::Placing::one_more_field, crate::proofs::Placing::no_field))]
     pub fn push(&mut self, alloc: Global, name: &[u8], kind: Kind) -> Result<(), AllocError>
         requires { field_named 0 self.old name.now ≡ None }

@@ -37,7 +37,7 @@ impl Names {
         self.names.get_index_of(name)
     }
 
-    /// Puts a new name behind the others.
+    /// Puts a new name after the others.
     pub(crate) fn push(&mut self, alloc: Global, name: &[u8]) -> Result<(), AllocError>
         requires { position (bytes_eq name.now) self.old ≡ None }
         ensures pushed { OnOk result (self.new ≡ self.old ++ name.now ∷ []) }

@@ -122,7 +122,7 @@ impl Scope {
         }
     }
 
-    /// Declares a variable, by the next number of the frame, and gives the number. All stays as it was where memory is refused.
+    /// Declares a variable, by the next number of the frame, and gives the number. All stays as it was where an allocation fails.
     pub fn declare(
         &mut self,
         alloc: Global,

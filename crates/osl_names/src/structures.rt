@@ -83,7 +83,7 @@ impl Structures {
         }
     }
 
-    /// Puts a structure behind the others. They stay as they were where memory is refused.
+    /// Puts a structure after the others. They stay as they were where an allocation fails.
     #[tactic(auto, using(crate::proofs::Placing::one_more_structure, crate::proofs::Placing::structure_by))]
     pub fn add(&mut self, alloc: Global, name: &[u8], fields: Fields) -> Result<(), AllocError>
         requires { structure_named 0 self.old name.now ≡ None }

@@ -13,11 +13,10 @@ mod statements;
 mod structures;
 
 use crate::LIMIT;
-use osl_check::check;
+use osl_check::{TypeError, check};
 use osl_lex::{LexError, lex};
 use osl_parse::{SyntaxError, parse};
 use osl_typed::Typed;
-use osl_typing::TypeError;
 use osl_value::Memory;
 use std::alloc::Global;
 use std::process::Abort;

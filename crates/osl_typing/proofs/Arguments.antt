@@ -1,4 +1,4 @@
--- Arguments: a list of which each is an expression, or one is a row of a matrix; and an argument that stands alone.
+-- Arguments: a list of which each is an expression, or one is a row of a matrix; and an argument that is the only one.
 use Rattle.std.proofs.Common.{◌≡◌, suc, ◌+◌, Bool, true, false, ◌||◌, if◌then◌else◌, refl, ap, sym, ◌∙◌, List, [], ◌∷◌, ◌++◌, length, map, Option, None, Some, arith, length-append}
 use Rattle.std.proofs.lemmas.List.{map-append}
 use Rattle.std.specs.List.{list_any}

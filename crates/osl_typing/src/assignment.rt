@@ -71,7 +71,7 @@ fn set_to(alloc: Global, kind: Kind, target: Target, b: Found) -> Result<Found, 
     value(alloc, TypedExpr::Assign(root, part, indices, right), kind)
 }
 
-/// Whether a value of a type may stand where a kind is wanted.
+/// Whether a value of a type fits where a kind is wanted.
 fn fits(ty: Ty, wanted: Kind) -> bool
     ensures { result ≡ pieces.fits ty wanted }
 {

@@ -8,8 +8,8 @@ pub enum TypeError {
     /// The tree has no typing.
     #[error("the source has no typing")]
     NoTyping,
-    /// Memory was refused.
-    #[error("memory was refused")]
+    /// An allocation failed.
+    #[error("out of memory")]
     Memory,
 }
 

@@ -1,4 +1,4 @@
-//! What stands where a kind is wanted.
+//! Expressions where a kind is wanted.
 
 ghost use Rattle.std.specs.Prelude.{◌≡◌};
 ghost use Rattle.osl_typed.specs.Typing as spec;
@@ -11,7 +11,7 @@ use osl_overload::cost::cost;
 use osl_typed::{Found, TypedExpr};
 use std::alloc::Global;
 
-/// What stands where a kind is wanted by `=`: the expression as it is where it has the kind, and promoted where it
+/// An expression where a kind is wanted, by `=`: the expression as it is where it has the kind, and promoted where it
 /// may be.
 #[tactic(auto, unfolding(osl_typed::specs::Typing::fit))]
 pub fn fit(alloc: Global, kind: Kind, a: Found) -> Result<TypedExpr, TypeError>

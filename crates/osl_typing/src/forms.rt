@@ -46,7 +46,7 @@ pub fn value(alloc: Global, tree: TypedExpr, kind: Kind) -> Result<Found, TypeEr
     })
 }
 
-/// The literal of an int. The literal `0` may stand for the empty closure.
+/// The literal of an int. The literal `0` may mean the empty closure.
 pub fn int_literal(alloc: Global, n: i32) -> Result<Found, TypeError>
     ensures { Says (Some (spec.int_literal n)) result }
 {

@@ -1,7 +1,7 @@
 //! The typed form of each node of an expression, from the typed forms of its parts.
 //!
 //! Each function answers what `osl_typed`'s definitions have for its node: `Ok` with the typed form, `NoTyping`
-//! exactly where there is none, or `Memory` where memory was refused (`specs/Says`). Calls are in `osl_calls`.
+//! exactly where there is none, or `Memory` where an allocation failed (`specs/Says`). Calls are in `osl_calls`.
 #![tactic(auto)]
 
 pub mod assignment;
