@@ -3,7 +3,7 @@
 ghost use Rattle.std.specs.Prelude.{◌≡◌, false, IfOk, Err};
 ghost use Rattle.osl_typed.specs.FileTyping as spec;
 ghost use Rattle.osl_typed.specs.FileTyping.{IsTypingOf};
-ghost use Rattle.osl_typed.specs.Sources.{IsTreeOfSource};
+ghost use Rattle.osl_tree.specs.Sources.{IsTreeOfSource};
 ghost use Rattle.osl_typed.specs.Scopes.{outermost};
 ghost use Rattle.osl_typed.specs.declared.shader.TypedShader.{TypedShader};
 ghost use Rattle.osl_typing.specs.Says.{Says};

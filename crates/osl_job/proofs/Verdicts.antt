@@ -13,7 +13,6 @@ use Rattle.osl_tree.specs.FileReading.{parsed}
 use Rattle.osl_tree.proofs.Parsed.{parsed_again, parsed_spells, one_tree}
 use Rattle.osl_typed.specs.declared.shader.TypedShader.{TypedShader}
 use Rattle.osl_typed.specs.FileTyping.{typed, IsTypingOf}
-use Rattle.osl_typed.specs.Sources.{IsTreeOfSource}
 use Rattle.osl_lex.specs.declared.error.LexError.{LexError}
 use Rattle.osl_lex.specs.declared.error.LexError.TheVariants.{Bad}
 use Rattle.osl_lex.specs.Pieces.{IsFirstBad}
@@ -23,7 +22,7 @@ use Rattle.osl_lex.proofs.SomeReading.{some_reading_of}
 use Rattle.osl_parse.specs.declared.error.SyntaxError.{SyntaxError}
 use Rattle.osl_parse.specs.declared.error.SyntaxError.TheVariants as errors
 use Rattle.osl_parse.specs.Reads.{IsNoTree}
-use Rattle.osl_tree.specs.Sources.{LieWithin}
+use Rattle.osl_tree.specs.Sources.{IsTreeOfSource, LieWithin}
 use Rattle.osl_tree.proofs.Within.{lie_within}
 use Rattle.osl_typing.specs.declared.error.TypeError.{TypeError}
 use Rattle.osl_typing.specs.declared.error.TypeError.TheVariants as types

@@ -16,7 +16,6 @@ pub mod Typing
 pub mod BodyTyping
 pub mod Longest
 pub mod FileTyping
-pub mod Sources
 pub mod SourceTyping
 pub mod Measured
 pub mod Seen

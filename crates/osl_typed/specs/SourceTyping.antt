@@ -1,6 +1,6 @@
 -- Typings of sources.
 use Rattle.osl_tree.specs.declared.tree.Tree.{Tree}
-use Rattle.osl_typed.specs.Sources.{IsTreeOfSource}
+use Rattle.osl_tree.specs.Sources.{IsTreeOfSource}
 use Rattle.osl_typed.specs.declared.shader.TypedShader.{TypedShader}
 use Rattle.osl_typed.specs.FileTyping.{IsTypingOf}
 
