@@ -3,7 +3,7 @@ use Rattle.std.specs.Prelude.{◌≡◌, Option, None, Some, Result, Ok, Err}
 use Rattle.osl_typing.specs.declared.error.TypeError.{TypeError}
 use Rattle.osl_typing.specs.declared.error.TypeError.TheVariants.{Memory, NoTyping}
 
--- what there is, or that there is nothing; want of memory says nothing
+-- what there is, or that there is nothing; out of memory it says nothing
 abbrev pub Says : {A : Type 0} → Option A → Result A TypeError → Type 0
 Says o (Ok a) = o ≡ Some a
 Says o (Err NoTyping) = o ≡ None
