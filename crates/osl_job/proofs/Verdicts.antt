@@ -22,7 +22,7 @@ use Rattle.osl_lex.proofs.SomeReading.{some_reading_of}
 use Rattle.osl_parse.specs.declared.error.SyntaxError.{SyntaxError}
 use Rattle.osl_parse.specs.declared.error.SyntaxError.TheVariants as errors
 use Rattle.osl_parse.specs.Reads.{IsNoTree}
-use Rattle.osl_tree.specs.Sources.{IsTreeOfSource, LieWithin}
+use Rattle.osl_tree.specs.Sources.{LieWithin}
 use Rattle.osl_tree.proofs.Within.{lie_within}
 use Rattle.osl_typing.specs.declared.error.TypeError.{TypeError}
 use Rattle.osl_typing.specs.declared.error.TypeError.TheVariants as types
@@ -103,10 +103,6 @@ pub typed_source : (text : List ℕ) (ts us vs : List Token) (tree : Tree) (t : 
     → source ≡ built (small_shader (lexemes text vs)) → IsSource text source
 typed_source text ts us vs tree t source e d is spells some same =
     has_typing us tree t source (subst (λ (xs : List Token). Tokens text xs) (sym e) is) spells some (same ∙ ap (λ xs. built (small_shader (lexemes text xs))) (d ∙ sym e))
-
-pub tree_of_source : (text : List ℕ) (ts us : List Token) (tree : Tree) → us ≡ ts → Tokens text ts → Spells tree text us → IsTreeOfSource tree
-tree_of_source text ts us tree e is spells =
-    record { source = text; tokens = us; lexed = subst (λ (vs : List Token). Tokens text vs) (sym e) is; spelled = spells }
 
 pub tokens_lie : (text : List ℕ) (ts us : List Token) → us ≡ ts → Tokens text ts → LieWithin text us
 tokens_lie text ts us e is = subst (λ (vs : List Token). LieWithin text vs) (sym e) (lie_within text 0 (length text) ts is)

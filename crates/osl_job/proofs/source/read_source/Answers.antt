@@ -1,11 +1,8 @@
-use Rattle.osl_job.proofs.Verdicts.{bad_source, treeless_source, untyped_source, typed_source, tree_of_source, tokens_lie}
+use Rattle.osl_job.proofs.Verdicts.{bad_source, treeless_source, untyped_source, typed_source, tokens_lie}
 use Rattle.osl_job.proofs.source.read_source.Goals as goal
 
 pub returns-in-Err-Bad-clause-is : goal.returns-in-Err-Bad-clause-is
 returns-in-Err-Bad-clause-is c = bad_source c.args.text.now c.in-Err-Bad.field-0 c.in-Err-Bad.field-0-0 c.in-Err-Bad.field-0-1 c.in-Err-Bad.field-0-is c.in-Err-Bad.ensures.bad
-
-pub check-requires : goal.check-requires
-check-requires c = tree_of_source c.args.text.now c.in-Ok.tokens.items _ c.in-Ok-parse.tree c.as_slice.ensures.value c.in-Ok.ensures.tokens c.in-Ok-parse.ensures.found
 
 pub built-requires : goal.built-requires
 built-requires c = tokens_lie c.args.text.now c.in-Ok.tokens.items _ c.as_slice-in-Ok-check.ensures.value c.in-Ok.ensures.tokens
