@@ -20,14 +20,14 @@ use Rattle.oso_code.specs.CodeRun.{run_sections}
 use Rattle.oso_code.specs.Lasting.{Stays, Keeps}
 use Rattle.oso_code.specs.Ops.{range_count, takes_arguments, takes_types, type_at, type_of_symbol, is_number_of}
 use Rattle.oso_code.specs.Ranges.{steps_of}
-use Rattle.oso_code.specs.Run.{State, put, write, note, Source, Own, Wired, Held, Sources, read, read_from, Outcome, last, with_value, arguments, run, range}
+use Rattle.oso_code.specs.Run.{State, put, write, note, Source, Own, Wired, Held, Sources, read, read_from, Outcome, last, with_value, arguments, Run, act, run, range}
 use Rattle.oso_code.specs.Steps.{Step, Compute, step_of, named_step, branch_step, while_step, for_step, do_step, call_step, compute}
 use Rattle.oso_code.specs.Typed.{IsTyped, TypedSources, AreThere, AllTyped, OpTyped, StepTyped, AreTyped}
 use Rattle.oso_code.specs.Valid.{IsValid}
 use Rattle.oso_code.proofs.Decoding.{WithOne, WithTwo, WithThree, one, two, three, with_one, with_two, with_three, came_from}
 use Rattle.oso_code.proofs.Members.{and_both}
 use Rattle.oso_code.proofs.Nested.{op_facts}
-use Rattle.oso_code.proofs.Staying.{then_stays, KeepsWriting, run_stays}
+use Rattle.oso_code.proofs.Staying.{then_stays, KeepsWriting, act_stays, run_stays}
 
 -- ---- the operands of valid code
 
@@ -147,6 +147,9 @@ module _ (symbols : List Symbol) where
           let op = ops.each k (Compute name ty target sources) is in
           args_typed sources s (λ vs s1. go (write target (apply name ty vs) s1)) op.there p
           (λ vs all t q. h (write target (apply name ty vs) t) (write_typed target (apply name ty vs) t (gives_typed gives_values writes_its_type name ty target sources vs op all) q))
+
+      pub act_typed : (go : Run) → ((i e : ℕ) → Keeps (IsTyped symbols) (go i e)) → (k i e : ℕ) → Keeps (IsTyped symbols) (act from go (slice_get steps k) i e)
+      act_typed go h k = act_stays (IsTyped symbols) typed_stays from steps go h (slice_get steps k) (writing_typed k)
 
       pub run_typed : (n i e : ℕ) → Keeps (IsTyped symbols) (run from steps n i e)
       run_typed = run_stays (IsTyped symbols) typed_stays from steps writing_typed

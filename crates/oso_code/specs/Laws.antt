@@ -10,7 +10,7 @@ use Rattle.oso_code.specs.CodeRun.{parameters_of, sources_of, start_of, run_sect
 use Rattle.oso_code.specs.Lasting.{Keeps}
 use Rattle.oso_code.specs.Nesting.{IsClosed, AreNested, AreTiled}
 use Rattle.oso_code.specs.Ranges.{steps_of}
-use Rattle.oso_code.specs.Run.{Sources, last, run}
+use Rattle.oso_code.specs.Run.{Sources, last, Run, act, run}
 use Rattle.oso_code.specs.Steps.{step_of}
 use Rattle.oso_code.specs.Typed.{IsTyped, TypedSources, AreTyped, AreResults}
 use Rattle.oso_code.specs.Uses.{UsesAs}
@@ -52,7 +52,13 @@ StartIsTyped =
 abbrev pub SourcesAreTyped : Type 0
 SourcesAreTyped = (raw : Raw) (inputs : Inputs) → IsValid raw → AreInputs (parameters_of raw) inputs → TypedSources raw.symbols (sources_of raw inputs)
 
--- and so it stays along each run of ops, from whatever sources of these types
+-- each op keeps this, from whatever sources of these types, if what runs its ranges and what follows it does
+abbrev pub OpsKeepTypes : Type 0
+OpsKeepTypes =
+    (raw : Raw) (from : Sources) (go : Run) → IsValid raw → TypedSources raw.symbols from → ((i e : ℕ) → Keeps (IsTyped raw.symbols) (go i e))
+    → (k i e : ℕ) → Keeps (IsTyped raw.symbols) (act from go (slice_get (steps_of raw) k) i e)
+
+-- and so each run of ops does
 abbrev pub RunsKeepTypes : Type 0
 RunsKeepTypes = (raw : Raw) (from : Sources) → IsValid raw → TypedSources raw.symbols from → (n i e : ℕ) → Keeps (IsTyped raw.symbols) (run from (steps_of raw) n i e)
 

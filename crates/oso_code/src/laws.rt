@@ -1,7 +1,7 @@
 //! Laws of the definitions, each the contract of a function.
 
 ghost use Rattle.oso_code.specs.Valid.{ValidityIsExact};
-ghost use Rattle.oso_code.specs.Laws.{RangesNest, RangesAreTiled, SectionsAreClosed, StepsUseAsOps, OpsAreTyped, SourcesAreTyped, StartIsTyped, RunsKeepTypes, SectionsKeepTypes, LayersKeepTypes, ResultsAreTyped};
+ghost use Rattle.oso_code.specs.Laws.{RangesNest, RangesAreTiled, SectionsAreClosed, StepsUseAsOps, OpsAreTyped, SourcesAreTyped, StartIsTyped, OpsKeepTypes, RunsKeepTypes, SectionsKeepTypes, LayersKeepTypes, ResultsAreTyped};
 
 use osl_layer::laws::globals_are_typed;
 use osl_value::laws::{gives_values, writes_its_type};
@@ -46,6 +46,15 @@ pub fn start_is_typed()
     ensures { StartIsTyped }
 {
     globals_are_typed();
+}
+
+/// Where each symbol has a value of its type, it has one after any op of valid code, if whatever runs its ranges and what
+/// follows it keeps this.
+pub fn ops_keep_types()
+    ensures { OpsKeepTypes }
+{
+    gives_values();
+    writes_its_type();
 }
 
 /// Where each symbol has a value of its type, it has one after any run of ops of valid code.
