@@ -3,13 +3,14 @@ use Rattle.std.proofs.Common.{◌≡◌, ℕ, ◌+◌, List, [], ◌++◌, lengt
 use Rattle.std.proofs.lemmas.List.{take_all, append-nil, take-append-le}
 use Rattle.std.proofs.Math.Seq.{take-append-add}
 use Rattle.std.specs.Io.KnownBytes.{Appends, Keeps}
-use Rattle.osl_store.specs.Written.{AppendsFront}
+use Rattle.osl_store.specs.Views.{SinkView}
+use Rattle.osl_store.specs.Written.{Wrote, WroteFront, WroteNothing}
 
-pub appends-nothing : (o : Option (List ℕ)) → Appends o o []
+appends-nothing : (o : Option (List ℕ)) → Appends o o []
 appends-nothing None = _
 appends-nothing (Some xs) = sym (append-nil xs)
 
-pub appends-then : (o m n : Option (List ℕ)) (a b : List ℕ) → Appends o m a → Appends m n b → Appends o n (a ++ b)
+appends-then : (o m n : Option (List ℕ)) (a b : List ℕ) → Appends o m a → Appends m n b → Appends o n (a ++ b)
 appends-then None m n a b p q = _
 appends-then (Some xs) None n a b p q = absurd p
 appends-then (Some xs) (Some ys) None a b p q = absurd q
@@ -20,15 +21,21 @@ keeps-appends None n p = _
 keeps-appends (Some xs) None p = absurd p
 keeps-appends (Some xs) (Some ys) p = p ∙ sym (append-nil xs)
 
+pub nothing : (sink : SinkView) → Wrote sink sink []
+nothing sink = appends-nothing sink.written
+
+pub both : (first next last : SinkView) (a b : List ℕ) → Wrote first next a → Wrote next last b → Wrote first last (a ++ b)
+both first next last a b p q = appends-then first.written next.written last.written a b p q
+
 -- after some whole pieces, a front of the next is a front of all
-pub front-then : (o m n : Option (List ℕ)) (a b c : List ℕ) → Appends o m a → AppendsFront m n b → AppendsFront o n (a ++ (b ++ c))
-front-then o m n a b c p (k, within, q) =
-    let front : take (length a + k) (a ++ (b ++ c)) ≡ a ++ take k b = take-append-add a (b ++ c) k ∙ ap (λ l. a ++ l) (take-append-le k b c within) in
-    (length a + k, omega (arith, length-append a (b ++ c), length-append b c), rw front (appends-then o m n a (take k b) p q))
+pub front : (first next last : SinkView) (a b rest : List ℕ) → Wrote first next a → WroteFront next last b → WroteFront first last (a ++ (b ++ rest))
+front first next last a b rest p (k, within, q) =
+    let cut : take (length a + k) (a ++ (b ++ rest)) ≡ a ++ take k b = take-append-add a (b ++ rest) k ∙ ap (λ l. a ++ l) (take-append-le k b rest within) in
+    (length a + k, omega (arith, length-append a (b ++ rest), length-append b rest), rw cut (both first next last a (take k b) p q))
 
-pub keeps-front : (o m n : Option (List ℕ)) (a b : List ℕ) → Appends o m a → Keeps m n → AppendsFront o n (a ++ b)
-keeps-front o m n a b p q =
-    front-then o m n a [] b p (0, omega arith, keeps-appends m n q)
+pub unwritten : (first next last : SinkView) (a rest : List ℕ) → Wrote first next a → WroteNothing next last → WroteFront first last (a ++ rest)
+unwritten first next last a rest p q =
+    front first next last a [] rest p (0, omega arith, keeps-appends next.written last.written q)
 
-pub whole-front : (o n : Option (List ℕ)) (a : List ℕ) → Appends o n a → AppendsFront o n a
-whole-front o n a p = (length a, omega arith, rw (take_all (length a) a (omega arith)) p)
+pub whole : (first last : SinkView) (text : List ℕ) → Wrote first last text → WroteFront first last text
+whole first last text p = (length text, omega arith, rw (take_all (length text) text (omega arith)) p)

@@ -13,10 +13,6 @@ Files = List ℕ → Option (List ℕ)
 abbrev pub Tells : (List ℕ → Told) → Files → Type 0
 Tells file files = (name : List ℕ) → file name ≡ Some (files name)
 
--- the files are told as before
-abbrev pub SameFiles : (List ℕ → Told) → (List ℕ → Told) → Type 0
-SameFiles before now = (name : List ℕ) → now name ≡ before name
-
 -- the bytes of a file within the limit were appended
 abbrev pub Takes : Told → ℕ → List ℕ → List ℕ → Type 0
 Takes told limit old new = (bytes : List ℕ) × (new ≡ old ++ bytes) × (length bytes ≤ limit) × IfSome told (λ file. file ≡ Some bytes)

@@ -1,8 +1,8 @@
 -- What is seen of files and of bytes in memory.
-use Rattle.std.specs.Prelude.{◌≡◌, ◌≢◌, ℕ, ◌<◌, List, [], ◌∷◌, String, Vec, None, Some, Bool, ◌&&◌, string_bytes, length, slice_index_or, if◌then◌else◌, bytes_eq}
+use Rattle.std.specs.Prelude.{◌≡◌, ◌≢◌, ℕ, ◌<◌, List, [], ◌∷◌, String, Vec, None, Some, ◌&&◌, string_bytes, length, slice_index_or, if◌then◌else◌, bytes_eq}
 use Rattle.std.specs.Global.{Global}
-use Rattle.osl_store.specs.Counts.{Counts}
 use Rattle.osl_store.specs.Files.{Files}
+use Rattle.osl_store.specs.Views.{StoreView, SinkView}
 use Rattle.osl_store.specs.Failures as calls
 use Rattle.osl_store.specs.declared.failures.Failures.{Failures}
 use Rattle.osl_store.specs.declared.memory.MemoryStore.{MemoryStore}
@@ -33,9 +33,6 @@ pub record IsFirst (entries : List Entry) (name : List ℕ) (at : ℕ) : Type 0 
 abbrev pub files_of : MemoryStore → Files
 files_of store = content store.files.items
 
-abbrev pub counts_of : MemoryStore → Counts
-counts_of store = record { absents = store.absents; larges = store.larges; faults = store.faults; write_faults = store.write_faults }
-
 -- the reads of a store, and which of them fail
 abbrev pub reads_of : MemoryStore → Failures
 reads_of store = store.reads
@@ -44,16 +41,22 @@ reads_of store = store.reads
 abbrev pub writes_of : MemoryStore → Failures
 writes_of store = store.writes
 
-abbrev pub store_is_faultless : MemoryStore → Bool
-store_is_faultless store = calls.never_fails store.reads && calls.never_fails store.writes
+-- a store in memory tells all its files, and no call of it fails where none is listed
+abbrev pub seen_store : MemoryStore → StoreView
+seen_store store = record {
+  files = λ name. Some (files_of store name);
+  counts = record { absents = store.absents; larges = store.larges; faults = store.faults; write_faults = store.write_faults };
+  faultless = calls.never_fails store.reads && calls.never_fails store.writes;
+}
 
 -- the bytes that a sink in memory has taken
 abbrev pub written_of : MemorySink → List ℕ
 written_of sink = sink.bytes.items
 
-abbrev pub faults_of : MemorySink → ℕ
-faults_of sink = sink.faults
-
 -- the puts of a sink, and which of them fail
 abbrev pub puts_of : MemorySink → Failures
 puts_of sink = sink.puts
+
+-- a sink in memory tells its bytes, and no call of it fails where none is listed
+abbrev pub seen_sink : MemorySink → SinkView
+seen_sink sink = record { written = Some (written_of sink); faults = sink.faults; faultless = calls.never_fails sink.puts }

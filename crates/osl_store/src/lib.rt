@@ -1,20 +1,24 @@
 //! The outside: a store of files by name, and a sink of bytes.
 //!
-//! Both are traits. Contracts see what a store tells of each file and what a sink tells of the bytes
-//! that it took, and counts of what went wrong, none of which falls. Each refusal is tied to the count
-//! that rose. `MemoryStore` and `MemorySink` tell everything; `FileStore` and `StdSink` stand for the
-//! system's files and for standard output, and tell nothing. The definitions are in `specs/`: `Counts`,
-//! `Files` and `Written` for the traits, `Failures` and `Memory` for what lies in memory.
+//! Both are traits. Contracts see a store as one `StoreView`: what it tells of each file, how often something went wrong, and
+//! whether no call of it fails. They see a sink as one `SinkView`: the bytes that it took, how often a put failed, and the same
+//! for its calls. No count falls, and each refusal raises its own count alone. `MemoryStore` and `MemorySink` tell everything;
+//! `FileStore` and `StdSink` are the system's files and standard output, and tell nothing.
+//!
+//! Definitions are in `specs/`: `Views`, `Counts`, `Files` and `Written` for the traits, `Failures` and `Memory` for what lies in
+//! memory, `SystemErrors` for the system's files. `laws` says how puts add up.
 #![tactic(auto)]
 
-ghost use Rattle.std.specs.Prelude.{◌≡◌, ◌≢◌, List, ℕ, Bool, Option, OnOk, OnErr, IsErrOf};
-ghost use Rattle.osl_store.specs.Counts.{Counts, CountsRead, CountsWrite, CountsPut, StaysFaultless, SinkStaysFaultless};
-ghost use Rattle.osl_store.specs.Files.{Told, Takes, Becomes, SameFiles, IsMissing, IsLonger};
+ghost use Rattle.std.specs.Prelude.{◌≡◌, ◌≢◌, List, ℕ, OnOk, OnErr, IsErrOf};
+ghost use Rattle.osl_store.specs.Counts.{CountsRead, CountsWrite, CountsPut};
+ghost use Rattle.osl_store.specs.Files.{Takes, Becomes, IsMissing, IsLonger};
+ghost use Rattle.osl_store.specs.Views.{StoreView, SinkView, SameFiles, StaysFaultless, SinkStaysFaultless};
 ghost use Rattle.osl_store.specs.Written.{Puts};
 
 use thiserror::Error;
 
 mod failures;
+pub mod laws;
 pub mod memory;
 pub mod system;
 
@@ -33,8 +37,8 @@ pub enum ReadError {
     /// The file is longer than the limit.
     #[error("the file is longer than its limit")]
     TooLarge,
-    /// Memory was refused.
-    #[error("memory was refused")]
+    /// An allocation failed.
+    #[error("out of memory")]
     Memory,
 }
 
@@ -44,8 +48,8 @@ pub enum WriteError {
     /// The file could not be written, or not whole.
     #[error("the file could not be written")]
     Failed,
-    /// Memory was refused.
-    #[error("memory was refused")]
+    /// An allocation failed.
+    #[error("out of memory")]
     Memory,
 }
 
@@ -55,59 +59,47 @@ pub enum PutError {
     /// The bytes were not taken, or not all of them.
     #[error("the output took not all of the bytes")]
     Fault,
-    /// Memory was refused.
-    #[error("memory was refused")]
+    /// An allocation failed.
+    #[error("out of memory")]
     Memory,
 }
 
 /// Files by name.
 pub trait Store {
-    /// What is told of each file.
-    ghost file: { Self → List ℕ → Told };
-
-    /// How often a file was missing or too large, and a read or a write failed.
-    ghost counts: { Self → Counts };
-
-    /// Whether it is a store of which no call fails.
-    ghost faultless: { Self → Bool };
+    /// What contracts see of it: the files, where it tells them, the counts, and whether no call of it fails.
+    ghost seen: { Self → StoreView };
 
     /// Appends the bytes of a file, of which there are at most `limit`, to `into`. After an error `into` is as
     /// before. `Memory` may come at any time.
     fn read(&mut self, name: &str, limit: u32, into: &mut Vec<u8>) -> Result<(), ReadError>
-        ensures ok { OnOk result (Takes (file self.old name.now) limit into.old.items into.new.items) }
-        ensures absent { IsErrOf result ReadError.Absent → IsMissing (file self.old name.now) }
-        ensures large { IsErrOf result ReadError.TooLarge → IsLonger (file self.old name.now) limit }
+        ensures ok { OnOk result (Takes ((seen self.old).files name.now) limit into.old.items into.new.items) }
+        ensures absent { IsErrOf result ReadError.Absent → IsMissing ((seen self.old).files name.now) }
+        ensures large { IsErrOf result ReadError.TooLarge → IsLonger ((seen self.old).files name.now) limit }
         ensures err { OnErr result (into.new.items ≡ into.old.items) }
 
-        ensures files { SameFiles (file self.old) (file self.new) }
-        ensures counts { CountsRead (counts self.old) (counts self.new) result }
-        ensures faultless { StaysFaultless (faultless self.old) (faultless self.new) (counts self.old) (counts self.new) };
+        ensures files { SameFiles (seen self.old) (seen self.new) }
+        ensures counts { CountsRead (seen self.old).counts (seen self.new).counts result }
+        ensures faultless { StaysFaultless (seen self.old) (seen self.new) };
 
     /// Makes a file hold exactly these bytes. After `Failed` what it holds is not told; `Memory` changes nothing.
     fn write(&mut self, name: &str, bytes: &[u8]) -> Result<(), WriteError>
-        ensures ok { OnOk result (Becomes (file self.old name.now) (file self.new name.now) bytes.now) }
-        ensures memory { IsErrOf result WriteError.Memory → SameFiles (file self.old) (file self.new) }
+        ensures ok { OnOk result (Becomes ((seen self.old).files name.now) ((seen self.new).files name.now) bytes.now) }
+        ensures memory { IsErrOf result WriteError.Memory → SameFiles (seen self.old) (seen self.new) }
 
         // Whatever comes, every other file is told as before.
-        ensures others { (other : List ℕ) → other ≢ name.now → file self.new other ≡ file self.old other }
-        ensures counts { CountsWrite (counts self.old) (counts self.new) result }
-        ensures faultless { StaysFaultless (faultless self.old) (faultless self.new) (counts self.old) (counts self.new) };
+        ensures others { (other : List ℕ) → other ≢ name.now → (seen self.new).files other ≡ (seen self.old).files other }
+        ensures counts { CountsWrite (seen self.old).counts (seen self.new).counts result }
+        ensures faultless { StaysFaultless (seen self.old) (seen self.new) };
 }
 
 /// A place for bytes, one after another.
 pub trait Sink {
-    /// The bytes written, where they are told.
-    ghost written: { Self → Option (List ℕ) };
-
-    /// How often a put failed.
-    ghost faults: { Self → ℕ };
-
-    /// Whether it is a sink of which no call fails.
-    ghost faultless: { Self → Bool };
+    /// What contracts see of it: the bytes written, where it tells them, the count of faults, and whether no call of it fails.
+    ghost seen: { Self → SinkView };
 
     /// Appends all the bytes. After `Fault` a front of them was appended, after `Memory` nothing.
     fn put(&mut self, bytes: &[u8]) -> Result<(), PutError>
-        ensures bytes { Puts (written self.old) (written self.new) bytes.now result }
-        ensures counts { CountsPut (faults self.old) (faults self.new) result }
-        ensures faultless { SinkStaysFaultless (faultless self.old) (faultless self.new) (faults self.old) (faults self.new) };
+        ensures bytes { Puts (seen self.old) (seen self.new) bytes.now result }
+        ensures counts { CountsPut (seen self.old).faults (seen self.new).faults result }
+        ensures faultless { SinkStaysFaultless (seen self.old) (seen self.new) };
 }

@@ -1,11 +1,13 @@
-ghost use Rattle.std.specs.Prelude.{◌≡◌, ◌≢◌, ◌↔◌, [], ◌&&◌, List, ℕ, Some, None, IsTrue, string_bytes, IfSome, IfNone, OnOk, OnErr, IsErrOf};
+//! Files and bytes in memory, of whose calls listed ones fail.
+
+ghost use Rattle.std.specs.Prelude.{◌≡◌, ◌≢◌, ◌↔◌, [], List, ℕ, Some, None, IsTrue, string_bytes, IfSome, IfNone, OnOk, OnErr, IsErrOf};
 ghost use Rattle.std.specs.Option.{option_map};
-ghost use Rattle.std.specs.Io.KnownBytes.{Keeps};
-ghost use Rattle.osl_store.specs.Counts.{Counts, CountsRead, CountsWrite, CountsPut, StaysFaultless, SinkStaysFaultless, no_counts};
-ghost use Rattle.osl_store.specs.Files.{Takes, Becomes, SameFiles, IsMissing, IsLonger};
+ghost use Rattle.osl_store.specs.Counts.{CountsRead, CountsWrite, CountsPut, no_counts};
+ghost use Rattle.osl_store.specs.Files.{Takes, IsLonger};
+ghost use Rattle.osl_store.specs.Views.{SameFiles, StaysFaultless, SinkStaysFaultless};
 ghost use Rattle.osl_store.specs.Written.{Puts};
-ghost use Rattle.osl_store.specs.Failures.{next_fails, after_call, never_fails};
-ghost use Rattle.osl_store.specs.Memory.{content, IsFirst, files_of, counts_of, reads_of, writes_of, store_is_faultless, written_of, faults_of, puts_of};
+ghost use Rattle.osl_store.specs.Failures.{next_fails, after_call};
+ghost use Rattle.osl_store.specs.Memory.{content, IsFirst, files_of, reads_of, writes_of, seen_store, written_of, puts_of, seen_sink};
 
 use crate::failures::Failures;
 use crate::{PutError, ReadError, Sink, Store, WriteError};
@@ -32,7 +34,7 @@ impl MemoryStore {
         fail_writes: Vec<u64>,
     ) -> MemoryStore
         ensures files { files_of result ≡ content files.items }
-        ensures counts { counts_of result ≡ no_counts }
+        ensures counts { (seen_store result).counts ≡ no_counts }
         ensures reads { reads_of result ≡ record { made = 0; listed = fail_reads } }
         ensures writes { writes_of result ≡ record { made = 0; listed = fail_writes } }
     {
@@ -56,11 +58,7 @@ impl MemoryStore {
 }
 
 impl Store for MemoryStore {
-    ghost file = { λ s name. Some (files_of s name) };
-
-    ghost counts = { counts_of };
-
-    ghost faultless = { store_is_faultless };
+    ghost seen = { seen_store };
 
     /// As the trait says; and `Failed` comes exactly at a read that is listed.
     fn read(&mut self, name: &str, limit: u32, into: &mut Vec<u8>) -> Result<(), ReadError>
@@ -70,11 +68,11 @@ impl Store for MemoryStore {
         ensures failed { IsErrOf result ReadError.Failed ↔ IsTrue (next_fails (reads_of self.old)) }
         ensures err { OnErr result (into.new.items ≡ into.old.items) }
 
-        ensures files { (other : List ℕ) → files_of self.new other ≡ files_of self.old other }
-        ensures counts { CountsRead (counts_of self.old) (counts_of self.new) result }
+        ensures files { SameFiles (seen_store self.old) (seen_store self.new) }
+        ensures counts { CountsRead (seen_store self.old).counts (seen_store self.new).counts result }
         ensures reads { reads_of self.new ≡ after_call (reads_of self.old) }
         ensures writes { writes_of self.new ≡ writes_of self.old }
-        ensures faultless { StaysFaultless (store_is_faultless self.old) (store_is_faultless self.new) (counts_of self.old) (counts_of self.new) }
+        ensures faultless { StaysFaultless (seen_store self.old) (seen_store self.new) }
     {
         if self.reads.next_fails() {
             self.faults = self.faults.saturating_add(1);
@@ -98,13 +96,13 @@ impl Store for MemoryStore {
     fn write(&mut self, name: &str, bytes: &[u8]) -> Result<(), WriteError>
         ensures ok { OnOk result (files_of self.new name.now ≡ Some bytes.now) }
         ensures failed { IsErrOf result WriteError.Failed ↔ IsTrue (next_fails (writes_of self.old)) }
-        ensures err { OnErr result ((other : List ℕ) → files_of self.new other ≡ files_of self.old other) }
+        ensures err { OnErr result (SameFiles (seen_store self.old) (seen_store self.new)) }
 
         ensures others { (other : List ℕ) → other ≢ name.now → files_of self.new other ≡ files_of self.old other }
-        ensures counts { CountsWrite (counts_of self.old) (counts_of self.new) result }
+        ensures counts { CountsWrite (seen_store self.old).counts (seen_store self.new).counts result }
         ensures reads { reads_of self.new ≡ reads_of self.old }
         ensures writes { writes_of self.new ≡ after_call (writes_of self.old) }
-        ensures faultless { StaysFaultless (store_is_faultless self.old) (store_is_faultless self.new) (counts_of self.old) (counts_of self.new) }
+        ensures faultless { StaysFaultless (seen_store self.old) (seen_store self.new) }
     {
         if self.writes.next_fails() {
             self.write_faults = self.write_faults.saturating_add(1);
@@ -129,7 +127,7 @@ impl MemorySink {
     /// A sink that has taken nothing yet. The listed puts fail.
     pub fn new(alloc: Global, fail: Vec<u64>) -> MemorySink
         ensures written { written_of result ≡ [] }
-        ensures faults { faults_of result ≡ 0 }
+        ensures faults { (seen_sink result).faults ≡ 0 }
         ensures puts { puts_of result ≡ record { made = 0; listed = fail } }
     {
         MemorySink {
@@ -148,21 +146,17 @@ impl MemorySink {
 }
 
 impl Sink for MemorySink {
-    ghost written = { λ s. Some (written_of s) };
-
-    ghost faults = { faults_of };
-
-    ghost faultless = { λ s. never_fails (puts_of s) };
+    ghost seen = { seen_sink };
 
     /// As the trait says; and `Fault` comes exactly at a put that is listed, and appends nothing.
     fn put(&mut self, bytes: &[u8]) -> Result<(), PutError>
-        ensures bytes { Puts (Some (written_of self.old)) (Some (written_of self.new)) bytes.now result }
+        ensures bytes { Puts (seen_sink self.old) (seen_sink self.new) bytes.now result }
         ensures failed { IsErrOf result PutError.Fault ↔ IsTrue (next_fails (puts_of self.old)) }
         ensures err { OnErr result (written_of self.new ≡ written_of self.old) }
 
-        ensures counts { CountsPut (faults_of self.old) (faults_of self.new) result }
+        ensures counts { CountsPut (seen_sink self.old).faults (seen_sink self.new).faults result }
         ensures puts { puts_of self.new ≡ after_call (puts_of self.old) }
-        ensures faultless { SinkStaysFaultless (never_fails (puts_of self.old)) (never_fails (puts_of self.new)) (faults_of self.old) (faults_of self.new) }
+        ensures faultless { SinkStaysFaultless (seen_sink self.old) (seen_sink self.new) }
     {
         if self.puts.next_fails() {
             self.faults = self.faults.saturating_add(1);

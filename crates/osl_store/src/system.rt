@@ -1,14 +1,20 @@
-ghost use Rattle.std.specs.Prelude.{None, false, ◌≡◌, ◌≤◌, List, ℕ, length, ◌++◌, OnOk, IsErrOf, Some};
-ghost use Rattle.osl_store.specs.Files.{Takes, IsLonger};
+//! The system's files and standard output, of which contracts are told no content.
+
+ghost use Rattle.std.specs.Prelude.{None, false, ◌≡◌, OnOk, IsErrOf, Some};
 ghost use Rattle.std.specs.Io.{StartsWith};
 ghost use Rattle.std.specs.Option.{option_map};
+ghost use Rattle.osl_store.specs.Counts.{no_counts};
+ghost use Rattle.osl_store.specs.Files.{Takes, IsLonger};
+ghost use Rattle.osl_store.specs.SystemErrors.{not_opened, not_read, not_made};
 
 use crate::{PutError, ReadError, Sink, Store, WriteError};
 use std::fs;
 use std::io::{ErrorKind, Read, Write};
+use std::marker::Model;
 use std::rt::Files;
 
-/// The files of the system. It tells no content: what they hold is outside what contracts can say.
+/// The files of the system, seen as how often a call of them was refused. It tells no content: what they hold is outside
+/// what contracts can say.
 #[derive(Drop)]
 pub struct FileStore<'a, R: Files> {
     rt: &'a R,
@@ -18,9 +24,21 @@ pub struct FileStore<'a, R: Files> {
     write_faults: u64,
 }
 
+impl<'a, R: Files> Model for FileStore<'a, R> {
+    ghost use Rattle.osl_store.specs.Counts.{Counts, counts_code};
+
+    ghost Value = { Counts };
+
+    ghost coded = { counts_code };
+
+    ghost view = { λ s. record { absents = s.absents; larges = s.larges; faults = s.faults; write_faults = s.write_faults } };
+}
+
 impl<'a, R: Files> FileStore<'a, R> {
     /// Nothing was read or written yet.
-    pub fn new(rt: &'a R) -> FileStore<'a, R> {
+    pub fn new(rt: &'a R) -> FileStore<'a, R>
+        ensures { result ≡ no_counts }
+    {
         FileStore {
             rt,
             absents: 0,
@@ -32,19 +50,14 @@ impl<'a, R: Files> FileStore<'a, R> {
 }
 
 impl<R: Files> Store for FileStore<'_, R> {
-    ghost file = { λ s name. None };
+    ghost seen = { λ counts. record { files = λ name. None; counts = counts; faultless = false } };
 
-    ghost counts = { λ s. record { absents = s.absents; larges = s.larges; faults = s.faults; write_faults = s.write_faults } };
-
-    ghost faultless = { λ s. false };
-
-    /// A file that is there and cannot be opened, as one without leave to read, and a folder are `Failed`.
+    /// `Absent` where there is no file of this name. A file that is there and may not be opened, and a folder, are `Failed`.
     fn read(&mut self, name: &str, limit: u32, into: &mut Vec<u8>) -> Result<(), ReadError> {
         let before = into.len();
         let result = match fs::open(self.rt, name) {
             Ok(mut file) => take_all(&mut file, limit, into),
-            Err(error) if error.kind() == ErrorKind::NotFound => Err(ReadError::Absent),
-            Err(_) => Err(ReadError::Failed),
+            Err(error) => Err(not_opened(error.kind())),
         };
         match result {
             Ok(()) => return Ok(()),
@@ -58,52 +71,90 @@ impl<R: Files> Store for FileStore<'_, R> {
     }
 
     fn write(&mut self, name: &str, bytes: &[u8]) -> Result<(), WriteError> {
-        let written = match fs::create(self.rt, name) {
-            Ok(mut file) => file.write_all(bytes),
-            Err(error) => Err(error),
+        let result = match fs::create(self.rt, name) {
+            // A write that was begun may have changed the file, so whatever ends it is a fault.
+            Ok(mut file) => file.write_all(bytes).map_err(|_| WriteError::Failed),
+            Err(error) => Err(not_made(error.kind())),
         };
-        if written.is_err() {
+        if let Err(WriteError::Failed) = result {
             self.write_faults = self.write_faults.saturating_add(1);
-            return Err(WriteError::Failed);
         }
-        Ok(())
+        result
     }
 }
 
-/// Appends what is left of a file. After an error some of it may have been appended.
+/// Appends what is left of a file. After an error some of it may have been appended. It is `TooLarge` where more than
+/// `limit` bytes came, `Memory` where an allocation failed, and `Failed` at every other error of the reader.
 fn take_all<R: Read + Drop>(file: R, limit: u32, into: &mut Vec<u8>) -> Result<(), ReadError>
     ensures ok { OnOk result (Takes (option_map Some (R.remaining file)) limit into.old.items into.new.items) }
     ensures large { IsErrOf result ReadError.TooLarge → IsLonger (option_map Some (R.remaining file)) limit }
+    ensures there { IsErrOf result ReadError.Absent → ⊥ }
     ensures appends { StartsWith into.new.items into.old.items }
 {
     match file.take(u64::from(limit) + 1).read_to_end(into) {
         Ok(count) if count > limit as usize => Err(ReadError::TooLarge),
         Ok(_) => Ok(()),
-        Err(error) if error.kind() == ErrorKind::OutOfMemory => Err(ReadError::Memory),
-        Err(_) => Err(ReadError::Failed),
+        Err(error) => Err(not_read(error.kind())),
     }
 }
 
-/// Standard output. It tells no content.
+/// Why a file was not opened.
+fn not_opened(error: ErrorKind) -> ReadError
+    ensures { result ≡ not_opened error }
+{
+    match error {
+        ErrorKind::NotFound => ReadError::Absent,
+        ErrorKind::OutOfMemory => ReadError::Memory,
+        _ => ReadError::Failed,
+    }
+}
+
+/// Why a file that was opened was not read to its end.
+fn not_read(error: ErrorKind) -> ReadError
+    ensures { result ≡ not_read error }
+{
+    match error {
+        ErrorKind::OutOfMemory => ReadError::Memory,
+        _ => ReadError::Failed,
+    }
+}
+
+/// Why a file was not made.
+fn not_made(error: ErrorKind) -> WriteError
+    ensures { result ≡ not_made error }
+{
+    match error {
+        ErrorKind::OutOfMemory => WriteError::Memory,
+        _ => WriteError::Failed,
+    }
+}
+
+/// Standard output, seen as how often a put failed. It tells no content.
 #[derive(Drop)]
 pub struct StdSink<'a, R: Print> {
     rt: &'a R,
     faults: u64,
 }
 
+impl<'a, R: Print> Model for StdSink<'a, R> {
+    ghost use Rattle.std.specs.Prelude.{ℕ};
+
+    ghost Value = { ℕ };
+
+    ghost view = { λ s. s.faults };
+}
+
 impl<'a, R: Print> StdSink<'a, R> {
     /// Nothing was put yet.
-    pub fn new(rt: &'a R) -> StdSink<'a, R> {
+    pub fn new(rt: &'a R) -> StdSink<'a, R>
+        ensures { result ≡ 0 }
+    {
         StdSink { rt, faults: 0 }
     }
 }
 
 impl<R: Print> Sink for StdSink<'_, R> {
-    ghost written = { λ s. None };
-
-    ghost faults = { λ s. s.faults };
-
-    ghost faultless = { λ s. false };
+    ghost seen = { λ faults. record { written = None; faults = faults; faultless = false } };
 
     /// An output that takes nothing of a piece that is not empty is at fault.
     fn put(&mut self, bytes: &[u8]) -> Result<(), PutError> {
