@@ -10,8 +10,8 @@ use Rattle.osl_job.specs.declared.small.Expr.{Expr}
 use Rattle.osl_job.specs.declared.small.Expr.TheVariants.{Apply}
 use Rattle.osl_job.specs.declared.small.Param.{Param}
 use Rattle.osl_job.specs.declared.small.Assignment.{Assignment}
-use Rattle.osl_job.specs.declared.text.Stop.{Stop}
-use Rattle.osl_job.specs.declared.text.Stop.TheVariants.{NotBuilt, Memory}
+use Rattle.osl_job.specs.declared.text.ReadStop.{ReadStop}
+use Rattle.osl_job.specs.declared.text.ReadStop.TheVariants.{NotBuilt, Memory}
 use Rattle.osl_job.specs.Reader.{Reads}
 use Rattle.osl_job.specs.Small.{token, sign_of, operand_of, joined, more_operands, param, more_params, assignment, more_assignments}
 
@@ -19,7 +19,7 @@ pub one_more : {A : Type 0} → (f : ℕ → A) (end turn : ℕ) → turn < end 
 one_more f end turn h = let n : end - turn ≡ suc (end - (turn + 1)) = omega arith in ap f n
 
 -- a reading that stops, stops what goes on with it
-pub stops : {A B : Type 0} → (r : Option (A × List Lexeme)) (s : Option (B × List Lexeme)) (stop : Stop) (a b : List Lexeme)
+pub stops : {A B : Type 0} → (r : Option (A × List Lexeme)) (s : Option (B × List Lexeme)) (stop : ReadStop) (a b : List Lexeme)
     → (r ≡ None → s ≡ None) → Reads {A = A} {L = Lexeme} r (Err stop) a → Reads {A = B} {L = Lexeme} s (Err stop) b
 stops r s NotBuilt a b f p = f p
 stops r s Memory a b f p = tt

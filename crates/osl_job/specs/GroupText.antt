@@ -1,7 +1,7 @@
 -- The small forms of group and point texts that are built today.
 use Rattle.std.specs.Prelude.{ℕ, Bool, false, ◌&&◌, nat_le, if◌then◌else◌, List, [], ◌∷◌, length, Option, Some, None, codes, bytes_eq}
 use Rattle.std.specs.List.{list_all, before_first, after_first}
-use Rattle.osl_job.specs.declared.text.Form.TheVariants as form
+use Rattle.osl_job.specs.declared.text.TextForm.TheVariants as form
 use Rattle.osl_job.specs.declared.group.Group.{Group}
 use Rattle.osl_job.specs.Text.{lexemes, begins_word, is_word_byte, is_point}
 use Rattle.osl_job.specs.Reader.{Reader, ◌>>=◌, ◌>>◌, pure, word, mark, piece, ended, is_end, rest, sees_word}

@@ -4,9 +4,9 @@ pub mod GroupText
 pub mod SmallNames
 pub mod SmallRun
 pub mod Small
-pub mod Source
+pub mod ShaderTexts
 pub mod Code
-pub mod Words
+pub mod Jobs
 pub mod Status
 pub mod Verdict
 pub mod Plan

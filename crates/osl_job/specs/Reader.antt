@@ -1,7 +1,7 @@
 -- Reading from the front of a list of pieces and marks: what was read and the rest, or nothing.
 use Rattle.std.specs.Prelude.{◌≡◌, ℕ, Bool, false, ◌==◌, if◌then◌else◌, List, [], ◌∷◌, Option, Some, None, Result, Ok, Err, bytes_eq}
-use Rattle.osl_job.specs.declared.text.Stop.{Stop}
-use Rattle.osl_job.specs.declared.text.Stop.TheVariants.{NotBuilt, Memory}
+use Rattle.osl_job.specs.declared.text.ReadStop.{ReadStop}
+use Rattle.osl_job.specs.declared.text.ReadStop.TheVariants.{NotBuilt, Memory}
 use Rattle.osl_job.specs.Text.{Lexeme, Piece, Mark}
 
 abbrev pub Read : Type 0 → Type 0
@@ -88,18 +88,18 @@ ended (Some p) = if is_end p.1 then Some p.0 else None
 
 -- ---- what a function that reads ensures: the outcome of the reading, unless memory runs out
 
-abbrev pub Reads : {A L : Type 0} → Option (A × List L) → Result A Stop → List L → Type 0
+abbrev pub Reads : {A L : Type 0} → Option (A × List L) → Result A ReadStop → List L → Type 0
 Reads read (Ok a) after = read ≡ Some (a, after)
 Reads read (Err NotBuilt) after = read ≡ None
 Reads read (Err Memory) after = Unit {0}
 
-abbrev pub ReadsWhole : {A : Type 0} → Option A → Result A Stop → Type 0
+abbrev pub ReadsWhole : {A : Type 0} → Option A → Result A ReadStop → Type 0
 ReadsWhole read (Ok a) = read ≡ Some a
 ReadsWhole read (Err NotBuilt) = read ≡ None
 ReadsWhole read (Err Memory) = Unit {0}
 
 -- this, unless memory runs out
-abbrev pub OnlyMemory : {A : Type 0} → A → Result A Stop → Type 0
+abbrev pub OnlyMemory : {A : Type 0} → A → Result A ReadStop → Type 0
 OnlyMemory x (Ok a) = a ≡ x
 OnlyMemory x (Err NotBuilt) = ⊥
 OnlyMemory x (Err Memory) = Unit {0}

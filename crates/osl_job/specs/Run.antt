@@ -1,35 +1,21 @@
 -- What the contract of a top call says, in named facts.
-use Rattle.std.specs.Prelude.{◌≡◌, ◌≢◌, ◌≤◌, ℕ, List, ◌++◌, length, codes, Bool, IsTrue, Option, Some, Vec}
+use Rattle.std.specs.Prelude.{◌≡◌, ◌≢◌, ◌≤◌, ℕ, List, ◌++◌, length, codes, Some, Vec}
 use Rattle.std.specs.Global.{Global}
 use Rattle.std.specs.List.{flat_map}
-use Rattle.std.specs.Io.KnownBytes.{Appends}
-use Rattle.osl_store.specs.Counts.{Counts, Rose, NoneFell, StaysFaultless}
-use Rattle.osl_store.specs.Files.{Told, Files, Tells, SameFiles}
-use Rattle.osl_store.specs.Written.{AppendsFront}
+use Rattle.osl_store.specs.Counts.{Rose, NoneFell}
+use Rattle.osl_store.specs.Files.{Files}
+use Rattle.osl_store.specs.Views.{StoreView, SinkView, Tells, SameFiles, StaysFaultless}
+use Rattle.osl_store.specs.Written.{Wrote, WroteFront}
 use Rattle.osl_job.specs.declared.report.Refusal.{Refusal}
-use Rattle.osl_job.specs.declared.report.Status.TheVariants as status
+use Rattle.osl_job.specs.declared.report.ExitStatus.TheVariants as status
 use Rattle.osl_job.specs.declared.report.Report.{Report}
 use Rattle.osl_job.specs.declared.steps.Fetched.{Fetched}
 use Rattle.osl_job.specs.declared.steps.Fetched.TheVariants.{Bytes, Stops}
-use Rattle.osl_job.specs.Status.{code_of, refusal_code, done, read_fault}
+use Rattle.osl_job.specs.Status.{code_of, refusal_code, done, usage, file_absent, read_fault, file_too_large}
 use Rattle.osl_job.specs.Verdict.{AcceptedJob, Verdict, Refused, Accepted, IsOutText, status_of, line}
 use Rattle.osl_job.specs.Plan.{Plan, Read, IsVerdict, ComesToRead}
 
--- ---- over told files, and what is written
-
--- a fact over the files that the store tells, where it tells all
-abbrev pub OverTold : (List ℕ → Told) → (Files → Type 0) → Type 0
-OverTold told P = (files : Files) → Tells told files → P files
-
--- a text with this property was written
-abbrev pub Writes : Option (List ℕ) → Option (List ℕ) → (List ℕ → Type 0) → Type 0
-Writes old new P = (text : List ℕ) × P text × Appends old new text
-
--- a front of a text with this property was written
-abbrev pub WritesFront : Option (List ℕ) → Option (List ℕ) → (List ℕ → Type 0) → Type 0
-WritesFront old new P = (text : List ℕ) × P text × AppendsFront old new text
-
--- ---- the texts of a run that nothing cuts short
+-- ---- the texts of a run
 
 -- the job is accepted, and this is a text that it may print
 pub record IsDone (plan : Plan) (files : Files) (text : List ℕ) : Type 0 where
@@ -56,10 +42,10 @@ pub data IsReport (plan : Plan) (files : Files) (status : ℕ) (text : List ℕ)
   is_fault : status ≡ read_fault → IsReadFault plan files text → IsReport plan files status text
 
 -- a text of the job: what it may print, or the line of a refusal, or that of a read that failed, where the count of those rose
-pub record IsText (plan : Plan) (files : Files) (before now : Counts) (text : List ℕ) : Type 0 where
+pub record IsText (before now : StoreView) (plan : Plan) (files : Files) (text : List ℕ) : Type 0 where
   pub status : ℕ
   pub report : IsReport plan files status text
-  pub read_fault : status ≡ read_fault → Rose before.faults now.faults
+  pub read_fault : status ≡ read_fault → Rose before.counts.faults now.counts.faults
 
 -- this is the status of the job's verdict
 pub record IsStatus (plan : Plan) (files : Files) (status : ℕ) : Type 0 where
@@ -67,33 +53,39 @@ pub record IsStatus (plan : Plan) (files : Files) (status : ℕ) : Type 0 where
   pub judged : IsVerdict files plan verdict
   pub is : status ≡ status_of verdict
 
+-- ---- over told files, and what is written
+
+-- a fact over the files that the store tells, where it tells all
+abbrev pub OverTold : StoreView → (Files → Type 0) → Type 0
+OverTold store P = (files : Files) → Tells store files → P files
+
+-- over told files, exactly a text of this kind was written
+abbrev pub Prints : (Plan → Files → List ℕ → Type 0) → Plan → StoreView → SinkView → SinkView → Type 0
+Prints IsKind plan store before now = OverTold store (λ files. (text : List ℕ) × IsKind plan files text × Wrote before now text)
+
+-- over told files, a front of a text of this kind was written
+abbrev pub PrintsFront : (Plan → Files → List ℕ → Type 0) → Plan → StoreView → SinkView → SinkView → Type 0
+PrintsFront IsKind plan store before now = OverTold store (λ files. (text : List ℕ) × IsKind plan files text × WroteFront before now text)
+
 -- ---- which counts rose
 
--- which count rose where a store was at fault
-pub record HasCause (status : ℕ) (before now : Counts) : Type 0 where
-  pub absent : status ≡ 6 → Rose before.absents now.absents
-  pub read_fault : status ≡ 7 → Rose before.faults now.faults
-  pub large : status ≡ 10 → Rose before.larges now.larges
+-- which count of the store rose, where the status says that one did
+pub record HasCause (status : ℕ) (before now : StoreView) : Type 0 where
+  pub absent : status ≡ file_absent → Rose before.counts.absents now.counts.absents
+  pub read_fault : status ≡ read_fault → Rose before.counts.faults now.counts.faults
+  pub large : status ≡ file_too_large → Rose before.counts.larges now.counts.larges
 
 -- no count of faults rose
-pub record NoFaultRose (before now : Counts) (sink_before sink_now : ℕ) : Type 0 where
-  pub reads : Rose before.faults now.faults → ⊥
-  pub writes : Rose before.write_faults now.write_faults → ⊥
-  pub puts : Rose sink_before sink_now → ⊥
-
--- a store and a sink of which no call fails stay such, and count no faults
-pub record StaysClean (store_old store_new sink_old sink_new : Bool) (before now : Counts) (sink_before sink_now : ℕ) : Type 0 where
-  pub store_still : IsTrue store_old → IsTrue store_new
-  pub sink_still : IsTrue sink_old → IsTrue sink_new
-  pub reads : IsTrue store_old → now.faults ≡ before.faults
-  pub writes : IsTrue store_old → now.write_faults ≡ before.write_faults
-  pub puts : IsTrue sink_old → sink_now ≡ sink_before
+pub record NoFaultRose (before now : StoreView) (sink_before sink_now : SinkView) : Type 0 where
+  pub reads : Rose before.counts.faults now.counts.faults → ⊥
+  pub writes : Rose before.counts.write_faults now.counts.write_faults → ⊥
+  pub puts : Rose sink_before.faults sink_now.faults → ⊥
 
 -- what reading leaves of a store
-pub record OnlyRead (told_before told_now : List ℕ → Told) (before now : Counts) (faultless_before faultless_now : Bool) : Type 0 where
-  pub files : SameFiles told_before told_now
-  pub later : NoneFell before now
-  pub faultless : StaysFaultless faultless_before faultless_now before now
+pub record OnlyRead (before now : StoreView) : Type 0 where
+  pub files : SameFiles before now
+  pub later : NoneFell before.counts now.counts
+  pub faultless : StaysFaultless before now
 
 -- ---- reports
 
@@ -106,10 +98,10 @@ abbrev pub ComesTo : Plan → Files → Report → Type 0
 ComesTo plan files r = IsReport plan files (code_of r.status) (text_of r.lines.items)
 
 -- what a step of a job answers: the report of what is left of it, with its cause
-pub record Reports (plan : Plan) (told : List ℕ → Told) (before now : Counts) (r : Report) : Type 0 where
-  pub report : OverTold told (λ files. ComesTo plan files r)
+pub record Reports (plan : Plan) (before now : StoreView) (r : Report) : Type 0 where
+  pub report : OverTold before (λ files. ComesTo plan files r)
   pub cause : HasCause (code_of r.status) before now
-  pub usage : code_of r.status ≢ 2
+  pub usage : code_of r.status ≢ usage
 
 -- this report is this refusal
 pub record IsRefused (why : Refusal) (text : List ℕ) (r : Report) : Type 0 where
@@ -127,9 +119,9 @@ FetchesWithin limit (Bytes bytes) = length bytes.items ≤ limit
 FetchesWithin limit (Stops r) = Unit {0}
 
 -- a fetch that ends the job has its cause
-abbrev pub FetchHasCause : Counts → Counts → Fetched → Type 0
+abbrev pub FetchHasCause : StoreView → StoreView → Fetched → Type 0
 FetchHasCause before now (Bytes bytes) = Unit {0}
-FetchHasCause before now (Stops r) = HasCause (code_of r.status) before now × (code_of r.status ≢ 2)
+FetchHasCause before now (Stops r) = HasCause (code_of r.status) before now × (code_of r.status ≢ usage)
 
 -- this report shows an accepted job
 pub record IsShown (job : AcceptedJob) (r : Report) : Type 0 where

@@ -1,7 +1,7 @@
 -- How group and point texts are cut: bytes that stand together make a piece, and each byte that stands alone is a mark.
 use Rattle.std.specs.Prelude.{ℕ, suc, Bool, true, false, not, ◌&&◌, ◌||◌, ◌==◌, nat_le, if◌then◌else◌, List, [], ◌∷◌}
-use Rattle.osl_job.specs.declared.text.Form.{Form}
-use Rattle.osl_job.specs.declared.text.Form.TheVariants as form
+use Rattle.osl_job.specs.declared.text.TextForm.{TextForm}
+use Rattle.osl_job.specs.declared.text.TextForm.TheVariants as form
 use Rattle.osl_job.specs.declared.text.Class.{Class}
 use Rattle.osl_job.specs.declared.text.Class.TheVariants.{Blank, Comment, Joined, Alone}
 
@@ -40,7 +40,7 @@ point_class c after =
     if (c == 32) || (c == 9) || (c == 10) || ((c == 13) && ends_line after) then Blank
     else if c == 35 then Comment else Joined
 
-abbrev pub class_of : Form → ℕ → List ℕ → Class
+abbrev pub class_of : TextForm → ℕ → List ℕ → Class
 class_of form.Group c after = group_class c
 class_of form.Points c after = point_class c after
 
@@ -63,7 +63,7 @@ is_comment Joined = false
 is_comment Alone = false
 
 -- a piece goes on here
-abbrev pub joins : Form → List ℕ → Bool
+abbrev pub joins : TextForm → List ℕ → Bool
 joins form [] = false
 joins form (c ∷ cs) = is_joined (class_of form c cs)
 
@@ -81,12 +81,12 @@ placed Joined c goes_on rest = if goes_on then longer c rest else Piece (c ∷ [
 placed Alone c goes_on rest = Mark c ∷ rest
 
 -- A text, cut. It may begin inside a comment, which goes up to the line's end.
-unfoldable pub cut : Form → Bool → List ℕ → List Lexeme
+unfoldable pub cut : TextForm → Bool → List ℕ → List Lexeme
 cut form inside [] = []
 cut form true (c ∷ cs) = cut form (not (c == 10)) cs
 cut form false (c ∷ cs) = placed (class_of form c cs) c (joins form cs) (cut form (is_comment (class_of form c cs)) cs)
 
-abbrev pub lexemes : Form → List ℕ → List Lexeme
+abbrev pub lexemes : TextForm → List ℕ → List Lexeme
 lexemes form text = cut form false text
 
 -- ---- the front of a text
@@ -98,7 +98,7 @@ begins_lexeme Joined = true
 begins_lexeme Alone = true
 
 -- no blank and no comment stands in front
-abbrev pub begins : Form → List ℕ → Bool
+abbrev pub begins : TextForm → List ℕ → Bool
 begins form [] = true
 begins form (c ∷ cs) = begins_lexeme (class_of form c cs)
 
@@ -109,6 +109,6 @@ one_longer Joined n = suc n
 one_longer Alone n = 0
 
 -- how many bytes stand together in front
-unfoldable pub joined_len : Form → List ℕ → ℕ
+unfoldable pub joined_len : TextForm → List ℕ → ℕ
 joined_len form [] = 0
 joined_len form (c ∷ cs) = one_longer (class_of form c cs) (joined_len form cs)

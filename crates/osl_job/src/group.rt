@@ -3,7 +3,7 @@ ghost use Rattle.osl_job.specs.Reader.{Reads, ReadsWhole, piece};
 ghost use Rattle.osl_job.specs.GroupText as spec;
 
 use crate::names::{is_name, split_point};
-use crate::text::{Form, Stop, Text};
+use crate::text::{TextForm, ReadStop, Text};
 use sqlite_items::Items;
 use std::alloc::Global;
 
@@ -16,20 +16,20 @@ pub struct Group {
 }
 
 /// The group that a text of the small form spells.
-pub fn read_group(alloc: Global, bytes: &[u8]) -> Result<Group, Stop>
+pub fn read_group(alloc: Global, bytes: &[u8]) -> Result<Group, ReadStop>
     ensures { ReadsWhole (spec.small_group bytes.now) result }
 {
-    let mut text = Text::new(Form::Group, bytes);
+    let mut text = Text::new(TextForm::Group, bytes);
     let group = two_statements(alloc, &mut text)?;
     if text.is_end() {
         Ok(group)
     } else {
-        Err(Stop::NotBuilt)
+        Err(ReadStop::NotBuilt)
     }
 }
 
 /// A `shader` statement and an `output` statement.
-fn two_statements(alloc: Global, text: &mut Text<'_>) -> Result<Group, Stop>
+fn two_statements(alloc: Global, text: &mut Text<'_>) -> Result<Group, ReadStop>
     ensures { Reads (spec.group text.old) result text.new }
 {
     text.word(b"shader")?;
@@ -46,14 +46,14 @@ fn two_statements(alloc: Global, text: &mut Text<'_>) -> Result<Group, Stop>
     })
 }
 
-fn name(alloc: Global, text: &mut Text<'_>) -> Result<Items<u8>, Stop>
+fn name(alloc: Global, text: &mut Text<'_>) -> Result<Items<u8>, ReadStop>
     ensures { Reads (piece spec.name text.old) result text.new }
 {
     let Some(found) = text.first_piece() else {
-        return Err(Stop::NotBuilt);
+        return Err(ReadStop::NotBuilt);
     };
     if !is_name(found) {
-        return Err(Stop::NotBuilt);
+        return Err(ReadStop::NotBuilt);
     }
     let name = Items::from_slice(alloc, found)?;
     text.skip();
@@ -61,15 +61,15 @@ fn name(alloc: Global, text: &mut Text<'_>) -> Result<Items<u8>, Stop>
 }
 
 /// The parameter of a pair, whose layer this must be.
-fn asked(alloc: Global, text: &mut Text<'_>, layer: &[u8]) -> Result<Items<u8>, Stop>
+fn asked(alloc: Global, text: &mut Text<'_>, layer: &[u8]) -> Result<Items<u8>, ReadStop>
     ensures { Reads (piece (spec.asked_of layer.now) text.old) result text.new }
 {
     let Some(found) = text.first_piece() else {
-        return Err(Stop::NotBuilt);
+        return Err(ReadStop::NotBuilt);
     };
     let (before, after) = split_point(found);
     if before != layer || !is_name(after) {
-        return Err(Stop::NotBuilt);
+        return Err(ReadStop::NotBuilt);
     }
     let param = Items::from_slice(alloc, after)?;
     text.skip();
@@ -80,6 +80,6 @@ fn asked(alloc: Global, text: &mut Text<'_>, layer: &[u8]) -> Result<Items<u8>, 
 pub fn is_one_point(bytes: &[u8]) -> bool
     ensures { result ≡ spec.is_one_point bytes.now }
 {
-    let mut text = Text::new(Form::Points, bytes);
+    let mut text = Text::new(TextForm::Points, bytes);
     text.eat_word(b"point") && text.is_end()
 }

@@ -1,12 +1,14 @@
-ghost use Rattle.std.specs.Prelude.{◌≡◌, ◌++◌, ◌≤◌, List, ℕ, length, IfOk, OnOk, OnErr, IsErrOf, IsTrue};
-ghost use Rattle.std.specs.List.{flat_map};
-ghost use Rattle.std.specs.Io.KnownBytes.{Appends};
-ghost use Rattle.osl_store.specs.Counts.{Rose, SinkStaysFaultless};
-ghost use Rattle.osl_store.specs.Written.{AppendsFront};
+//! How a job ends, and the lines that it prints.
+
+ghost use Rattle.std.specs.Prelude.{◌≡◌, ◌++◌, IfOk, OnOk, OnErr, IsErrOf};
+ghost use Rattle.osl_store.specs.Counts.{Rose};
+ghost use Rattle.osl_store.specs.Views.{SinkStaysFaultless};
+ghost use Rattle.osl_store.specs.Written.{Wrote, WroteFront};
 ghost use Rattle.osl_job.specs.Status.{code_of, refusal_code};
 ghost use Rattle.osl_job.specs.Verdict.{line};
 ghost use Rattle.osl_job.specs.Run.{text_of};
 
+use osl_store::laws::puts_add_up;
 use osl_store::{PutError, Sink};
 use osl_value::Memory;
 use std::alloc::Global;
@@ -16,8 +18,8 @@ use std::alloc::Global;
 pub enum Refusal {
     /// The words spell no job.
     Usage,
-    /// A source has no tokens, no tree, or no typing.
-    Source,
+    /// A shader text has no tokens, no tree, or no typing.
+    Shader,
     /// A file is absent.
     Absent,
     /// A file is too large.
@@ -28,7 +30,7 @@ pub enum Refusal {
 
 /// How a job ends, where nothing cuts it short.
 #[derive(Clone, Copy, Debug, PartialEq, Eq)]
-pub enum Status {
+pub enum ExitStatus {
     Done,
     Refused(Refusal),
     /// A file could not be read.
@@ -41,7 +43,7 @@ impl Refusal {
     {
         match self {
             Refusal::Usage => 2,
-            Refusal::Source => 3,
+            Refusal::Shader => 3,
             Refusal::Absent => 6,
             Refusal::TooLarge => 10,
             Refusal::NotBuilt => 11,
@@ -49,15 +51,15 @@ impl Refusal {
     }
 }
 
-impl Status {
+impl ExitStatus {
     /// The number that the program ends with.
     pub fn code(self) -> u8
         ensures { result ≡ code_of self }
     {
         match self {
-            Status::Done => 0,
-            Status::Refused(why) => why.code(),
-            Status::ReadFault => 7,
+            ExitStatus::Done => 0,
+            ExitStatus::Refused(why) => why.code(),
+            ExitStatus::ReadFault => 7,
         }
     }
 }
@@ -65,7 +67,7 @@ impl Status {
 /// What a job comes to: a status, and the lines to print.
 #[derive(Drop)]
 pub struct Report {
-    pub status: Status,
+    pub status: ExitStatus,
     pub lines: Vec<Vec<u8>>,
 }
 
@@ -73,7 +75,7 @@ impl Report {
     /// A report of one line, of these two pieces.
     pub fn of_line(
         alloc: Global,
-        status: Status,
+        status: ExitStatus,
         first: &[u8],
         second: &[u8],
     ) -> Result<Report, Memory>
@@ -91,11 +93,12 @@ impl Report {
 
 /// Prints the lines, one `put` for each.
 pub fn print<K: Sink>(lines: &[Vec<u8>], out: &mut K) -> Result<(), PutError>
-    ensures all { OnOk result (Appends (K.written out.old) (K.written out.new) (text_of lines.now)) }
-    ensures front { OnErr result (AppendsFront (K.written out.old) (K.written out.new) (text_of lines.now)) }
-    ensures fault { IsErrOf result PutError.Fault → Rose (K.faults out.old) (K.faults out.new) }
-    ensures faultless { SinkStaysFaultless (K.faultless out.old) (K.faultless out.new) (K.faults out.old) (K.faults out.new) }
+    ensures all { OnOk result (Wrote (K.seen out.old) (K.seen out.new) (text_of lines.now)) }
+    ensures front { OnErr result (WroteFront (K.seen out.old) (K.seen out.new) (text_of lines.now)) }
+    ensures fault { IsErrOf result PutError.Fault → Rose (K.seen out.old).faults (K.seen out.new).faults }
+    ensures faultless { SinkStaysFaultless (K.seen out.old) (K.seen out.new) }
 {
+    puts_add_up();
     for line in lines {
         match out.put(line.as_slice()) {
             Ok(()) => {}

@@ -11,7 +11,7 @@ ghost use Rattle.osl_job.specs.Small as spec;
 ghost use Rattle.osl_job.specs.Small.{AreTied};
 
 use crate::small::{Assignment, Expr, Param, SmallShader, SumOp, find_output, find_param};
-use crate::text::Stop;
+use crate::text::ReadStop;
 use crate::tokens::Tokens;
 use osl_tree::terminal::{Keyword, Terminal};
 use osl_tree::token::{Punct, Token};
@@ -32,7 +32,7 @@ const MORE_OPERANDS: u32 = 15;
 const ASSIGNMENTS: u32 = 64;
 
 /// The shader that these tokens of the source spell.
-pub fn read_shader(alloc: Global, source: &[u8], tokens: &[Token]) -> Result<SmallShader, Stop>
+pub fn read_shader(alloc: Global, source: &[u8], tokens: &[Token]) -> Result<SmallShader, ReadStop>
     requires { LieWithin source.now tokens.now }
     ensures read { ReadsWhole (spec.small_shader (lexemes source.now tokens.now)) result }
     ensures tied { IfOk result (λ t. is_tied t ≡ true) }
@@ -43,11 +43,11 @@ pub fn read_shader(alloc: Global, source: &[u8], tokens: &[Token]) -> Result<Sma
     if tokens.is_end() {
         Ok(shader)
     } else {
-        Err(Stop::NotBuilt)
+        Err(ReadStop::NotBuilt)
     }
 }
 
-fn shader(alloc: Global, tokens: &mut Tokens<'_>) -> Result<SmallShader, Stop>
+fn shader(alloc: Global, tokens: &mut Tokens<'_>) -> Result<SmallShader, ReadStop>
     ensures read { Reads (spec.shader tokens.old) result tokens.new }
     ensures tied { IfOk result (λ t. is_tied t ≡ true) }
     ensures few { IfOk result (λ t. length t.params ≤ 16) }
@@ -63,7 +63,7 @@ fn shader(alloc: Global, tokens: &mut Tokens<'_>) -> Result<SmallShader, Stop>
 }
 
 /// One parameter, or several behind one another with commas.
-fn params(alloc: Global, tokens: &mut Tokens<'_>) -> Result<Items<Param>, Stop>
+fn params(alloc: Global, tokens: &mut Tokens<'_>) -> Result<Items<Param>, ReadStop>
     ensures read { Reads (spec.parameters tokens.old) result tokens.new }
     ensures tied { IfOk result AreTied }
     ensures few { IfOk result (λ params. length params ≤ 16) }
@@ -81,7 +81,7 @@ fn more_params(
     tokens: &mut Tokens<'_>,
     room: u32,
     first: Items<Param>,
-) -> Result<Items<Param>, Stop>
+) -> Result<Items<Param>, ReadStop>
     requires fits { length first + room ≤ 16 }
     requires tied { AreTied first }
     ensures read { Reads (spec.more_params room first tokens.old) result tokens.new }
@@ -102,7 +102,7 @@ fn more_params(
 }
 
 /// A parameter behind those before it.
-fn param(alloc: Global, tokens: &mut Tokens<'_>, before: &[Param]) -> Result<Param, Stop>
+fn param(alloc: Global, tokens: &mut Tokens<'_>, before: &[Param]) -> Result<Param, ReadStop>
     requires { length before.now ≤ 16 }
     ensures read { Reads (spec.param before.now tokens.old) result tokens.new }
     ensures tied { IfOk result (λ p. AreTied (p ∷ [])) }
@@ -120,26 +120,26 @@ fn param(alloc: Global, tokens: &mut Tokens<'_>, before: &[Param]) -> Result<Par
 }
 
 /// A name that no parameter before it has.
-fn new_name(alloc: Global, tokens: &mut Tokens<'_>, before: &[Param]) -> Result<Items<u8>, Stop>
+fn new_name(alloc: Global, tokens: &mut Tokens<'_>, before: &[Param]) -> Result<Items<u8>, ReadStop>
     requires { length before.now ≤ 16 }
     ensures { Reads (spec.named (spec.new_name before.now) tokens.old) result tokens.new }
 {
     let Some(found) = tokens.name() else {
-        return Err(Stop::NotBuilt);
+        return Err(ReadStop::NotBuilt);
     };
     if find_param(before, found).is_some() || found.len() > LONGEST_NAME {
-        return Err(Stop::NotBuilt);
+        return Err(ReadStop::NotBuilt);
     }
     let name = Items::from_slice(alloc, found)?;
     tokens.skip();
     Ok(name)
 }
 
-fn number(tokens: &mut Tokens<'_>) -> Result<Fx, Stop>
+fn number(tokens: &mut Tokens<'_>) -> Result<Fx, ReadStop>
     ensures { Reads (spec.token spec.number_of tokens.old) result tokens.new }
 {
     let Some(value) = tokens.number() else {
-        return Err(Stop::NotBuilt);
+        return Err(ReadStop::NotBuilt);
     };
     tokens.skip();
     Ok(value)
@@ -152,7 +152,7 @@ fn assignments(
     tokens: &mut Tokens<'_>,
     params: &[Param],
     room: u32,
-) -> Result<Items<Assignment>, Stop>
+) -> Result<Items<Assignment>, ReadStop>
     requires { length params.now ≤ 16 }
     ensures read { Reads (spec.more_assignments params.now room [] tokens.old) result tokens.new }
     ensures tied { IfOk result (λ body. list_all (assignment_fits (length params.now)) body ≡ true) }
@@ -169,7 +169,7 @@ fn assignments(
     Ok(body)
 }
 
-fn assignment(alloc: Global, tokens: &mut Tokens<'_>, params: &[Param]) -> Result<Assignment, Stop>
+fn assignment(alloc: Global, tokens: &mut Tokens<'_>, params: &[Param]) -> Result<Assignment, ReadStop>
     requires { length params.now ≤ 16 }
     ensures read { Reads (spec.assignment params.now tokens.old) result tokens.new }
     ensures tied { IfOk result (λ a. assignment_fits (length params.now) a ≡ true) }
@@ -182,23 +182,23 @@ fn assignment(alloc: Global, tokens: &mut Tokens<'_>, params: &[Param]) -> Resul
 }
 
 /// The number of an output.
-fn target(tokens: &mut Tokens<'_>, params: &[Param]) -> Result<u32, Stop>
+fn target(tokens: &mut Tokens<'_>, params: &[Param]) -> Result<u32, ReadStop>
     requires { length params.now ≤ 16 }
     ensures read { Reads (spec.named (output_named params.now) tokens.old) result tokens.new }
     ensures within { IfOk result (λ number. number < length params.now) }
 {
     let Some(found) = tokens.name() else {
-        return Err(Stop::NotBuilt);
+        return Err(ReadStop::NotBuilt);
     };
     let Some(target) = find_output(params, found) else {
-        return Err(Stop::NotBuilt);
+        return Err(ReadStop::NotBuilt);
     };
     tokens.skip();
     Ok(target)
 }
 
 /// Operands behind one another with signs, joined to the left.
-fn sum(alloc: Global, tokens: &mut Tokens<'_>, params: &[Param]) -> Result<Expr, Stop>
+fn sum(alloc: Global, tokens: &mut Tokens<'_>, params: &[Param]) -> Result<Expr, ReadStop>
     requires { length params.now ≤ 16 }
     ensures read { Reads (spec.sum params.now tokens.old) result tokens.new }
     ensures tied { IfOk result (λ e. fits (length params.now) e ≡ true) }
@@ -215,7 +215,7 @@ fn more_operands(
     params: &[Param],
     room: u32,
     first: Expr,
-) -> Result<Expr, Stop>
+) -> Result<Expr, ReadStop>
     requires few { length params.now ≤ 16 }
     requires tied { fits (length params.now) first ≡ true }
     ensures read { Reads (spec.more_operands params.now room first tokens.old) result tokens.new }
@@ -232,7 +232,7 @@ fn more_operands(
     Ok(sum)
 }
 
-fn joined(alloc: Global, op: SumOp, left: Expr, right: Expr) -> Result<Expr, Stop>
+fn joined(alloc: Global, op: SumOp, left: Expr, right: Expr) -> Result<Expr, ReadStop>
     ensures { OnlyMemory (Expr.Apply op left right) result }
 {
     let left = Boxed::new(alloc, left)?;
@@ -260,13 +260,13 @@ fn sign_of(mark: Terminal) -> Option<SumOp>
 }
 
 /// A parameter, or a float.
-fn operand(tokens: &mut Tokens<'_>, params: &[Param]) -> Result<Expr, Stop>
+fn operand(tokens: &mut Tokens<'_>, params: &[Param]) -> Result<Expr, ReadStop>
     requires { length params.now ≤ 16 }
     ensures read { Reads (spec.token (spec.operand_of params.now) tokens.old) result tokens.new }
     ensures tied { IfOk result (λ e. fits (length params.now) e ≡ true) }
 {
     let Some(operand) = operand_of(tokens, params) else {
-        return Err(Stop::NotBuilt);
+        return Err(ReadStop::NotBuilt);
     };
     tokens.skip();
     Ok(operand)

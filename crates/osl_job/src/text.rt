@@ -10,39 +10,39 @@ use std::marker::Model;
 
 /// Why a reading stops.
 #[derive(Clone, Copy, Debug, PartialEq, Eq)]
-pub enum Stop {
+pub enum ReadStop {
     /// The text is not of a form that is built today.
     NotBuilt,
     Memory,
 }
 
-impl From<AllocError> for Stop {
+impl From<AllocError> for ReadStop {
     ghost use Rattle.std.specs.Prelude.{◌≡◌};
-    ghost use Rattle.osl_job.specs.declared.text.Stop.{Stop};
-    ghost use Rattle.osl_job.specs.declared.text.Stop.TheVariants as stops;
+    ghost use Rattle.osl_job.specs.declared.text.ReadStop.{ReadStop};
+    ghost use Rattle.osl_job.specs.declared.text.ReadStop.TheVariants as stops;
 
     ghost from_gives = { λ _ stop. stop ≡ stops.Memory };
 
-    fn from(_error: AllocError) -> Stop {
-        Stop::Memory
+    fn from(_error: AllocError) -> ReadStop {
+        ReadStop::Memory
     }
 }
 
-impl From<Memory> for Stop {
+impl From<Memory> for ReadStop {
     ghost use Rattle.std.specs.Prelude.{◌≡◌};
-    ghost use Rattle.osl_job.specs.declared.text.Stop.{Stop};
-    ghost use Rattle.osl_job.specs.declared.text.Stop.TheVariants as stops;
+    ghost use Rattle.osl_job.specs.declared.text.ReadStop.{ReadStop};
+    ghost use Rattle.osl_job.specs.declared.text.ReadStop.TheVariants as stops;
 
     ghost from_gives = { λ _ stop. stop ≡ stops.Memory };
 
-    fn from(_memory: Memory) -> Stop {
-        Stop::Memory
+    fn from(_memory: Memory) -> ReadStop {
+        ReadStop::Memory
     }
 }
 
 /// The kinds of texts.
 #[derive(Clone, Copy, Debug, PartialEq, Eq)]
-pub enum Form {
+pub enum TextForm {
     Group,
     Points,
 }
@@ -131,20 +131,20 @@ fn point_class(byte: u8, after: &[u8]) -> Class
     }
 }
 
-impl Form {
+impl TextForm {
     /// What a byte is for, with what stands behind it.
     fn class_of(self, byte: u8, after: &[u8]) -> Class
         ensures { result ≡ spec.class_of self byte after.now }
     {
         match self {
-            Form::Group => group_class(byte),
-            Form::Points => point_class(byte, after),
+            TextForm::Group => group_class(byte),
+            TextForm::Points => point_class(byte, after),
         }
     }
 }
 
 /// The text from its first piece or mark on.
-fn past_blanks(form: Form, text: &[u8]) -> &[u8]
+fn past_blanks(form: TextForm, text: &[u8]) -> &[u8]
     ensures same { spec.lexemes form result.now ≡ spec.lexemes form text.now }
     ensures starts { spec.begins form result.now ≡ true }
 {
@@ -164,7 +164,7 @@ fn past_blanks(form: Form, text: &[u8]) -> &[u8]
 }
 
 /// How many bytes stand together at the front.
-fn joined_len(form: Form, text: &[u8]) -> usize
+fn joined_len(form: TextForm, text: &[u8]) -> usize
     ensures count { result ≡ spec.joined_len form text.now }
     ensures within { result ≤ length text.now }
 {
@@ -179,7 +179,7 @@ fn joined_len(form: Form, text: &[u8]) -> usize
 /// A text, seen as the list of pieces and marks that it is cut into. It stands at the first of them.
 #[derive(Drop)]
 pub struct Text<'a> {
-    form: Form,
+    form: TextForm,
     rest: &'a [u8],
 }
 
@@ -195,7 +195,7 @@ impl<'a> Model for Text<'a> {
 }
 
 impl<'a> Text<'a> {
-    pub fn new(form: Form, text: &'a [u8]) -> Text<'a>
+    pub fn new(form: TextForm, text: &'a [u8]) -> Text<'a>
         ensures { result ≡ spec.lexemes form text.now }
     {
         Text {
@@ -274,22 +274,22 @@ impl<'a> Text<'a> {
     }
 
     /// Takes a word, which must come next.
-    pub fn word(&mut self, text: &[u8]) -> Result<(), Stop>
+    pub fn word(&mut self, text: &[u8]) -> Result<(), ReadStop>
         ensures { Reads (reader.word text.now self.old) result self.new }
     {
         if !self.sees_word(text) {
-            return Err(Stop::NotBuilt);
+            return Err(ReadStop::NotBuilt);
         }
         self.skip();
         Ok(())
     }
 
     /// Takes a mark, which must come next.
-    pub fn mark(&mut self, mark: u8) -> Result<(), Stop>
+    pub fn mark(&mut self, mark: u8) -> Result<(), ReadStop>
         ensures { Reads (reader.mark mark self.old) result self.new }
     {
         if !self.sees_mark(mark) {
-            return Err(Stop::NotBuilt);
+            return Err(ReadStop::NotBuilt);
         }
         self.skip();
         Ok(())

@@ -8,7 +8,7 @@ ghost use Rattle.osl_tree.specs.Sources.{LieWithin};
 ghost use Rattle.osl_job.specs.Reader.{Reads, is_end};
 ghost use Rattle.osl_job.specs.Small as spec;
 
-use crate::text::Stop;
+use crate::text::ReadStop;
 use osl_tree::terminal::{Keyword, Terminal};
 use osl_tree::token::{Token, TokenKind};
 use osl_value::Fx;
@@ -147,11 +147,11 @@ impl<'a> Tokens<'a> {
 
     /// Takes a mark, which must come next.
     #[tactic(auto, unfolding(osl_tree::specs::Parser::expect))]
-    pub fn expect(&mut self, mark: Terminal) -> Result<(), Stop>
+    pub fn expect(&mut self, mark: Terminal) -> Result<(), ReadStop>
         ensures { Reads (parser.expect mark self.old) result self.new }
     {
         if !self.sees(mark) {
-            return Err(Stop::NotBuilt);
+            return Err(ReadStop::NotBuilt);
         }
         self.skip();
         Ok(())

@@ -9,10 +9,6 @@ Told = Option (Option (List ℕ))
 abbrev pub Files : Type 0
 Files = List ℕ → Option (List ℕ)
 
--- the store tells these files
-abbrev pub Tells : (List ℕ → Told) → Files → Type 0
-Tells file files = (name : List ℕ) → file name ≡ Some (files name)
-
 -- the bytes of a file within the limit were appended
 abbrev pub Takes : Told → ℕ → List ℕ → List ℕ → Type 0
 Takes told limit old new = (bytes : List ℕ) × (new ≡ old ++ bytes) × (length bytes ≤ limit) × IfSome told (λ file. file ≡ Some bytes)

@@ -1,7 +1,7 @@
 -- What contracts see of a store and of a sink.
-use Rattle.std.specs.Prelude.{◌≡◌, ℕ, Bool, IsTrue, List, Option}
+use Rattle.std.specs.Prelude.{◌≡◌, ℕ, Bool, IsTrue, List, Option, Some}
 use Rattle.osl_store.specs.Counts.{Counts}
-use Rattle.osl_store.specs.Files.{Told}
+use Rattle.osl_store.specs.Files.{Files, Told}
 
 -- a store: what it tells of each file, what went wrong so far, and whether no call of it fails
 pub record StoreView : Type 0 where
@@ -14,6 +14,10 @@ pub record SinkView : Type 0 where
   pub written : Option (List ℕ)
   pub faults : ℕ
   pub faultless : Bool
+
+-- the store tells all its files, and they are these
+abbrev pub Tells : StoreView → Files → Type 0
+Tells store files = (name : List ℕ) → store.files name ≡ Some (files name)
 
 -- every file is told as before
 abbrev pub SameFiles : StoreView → StoreView → Type 0

@@ -1,4 +1,4 @@
-use Rattle.std.proofs.Common.{ℕ, ◌∙◌, sym, subst, map, string_bytes, inl, inr}
+use Rattle.std.proofs.Common.{ℕ, ◌∙◌, sym, subst, inl, inr}
 use Rattle.osl_job.specs.Status.{code_of, whole}
 use Rattle.osl_job.specs.Plan.{plan_for}
 use Rattle.osl_job.specs.Run.{text_of, IsStatus}
@@ -6,7 +6,8 @@ use Rattle.osl_job.proofs.Reports.{nothing_written, complete_from_report, done_f
 use Rattle.osl_job.proofs.run_plain.Goals as goal
 
 pub returns-in_default-clause-cut_short : goal.returns-in_default-clause-cut_short
-returns-in_default-clause-cut_short g c cut files tells = nothing_written (plan_for (map string_bytes c.args.words.now)) files _ _ (g.K.Sink.written c.args.out.now)
+returns-in_default-clause-cut_short g c cut =
+    nothing_written (plan_for c.args.words.now) _ _ (g.K.Sink.seen c.args.out.now) (c.puts_add_up.ensures.nothing _) c.one_verdict.ensures.some
 
 pub returns-in-Ok-print-clause-done : goal.returns-in-Ok-print-clause-done
 returns-in-Ok-print-clause-done g c e files tells = (
@@ -29,12 +30,15 @@ returns-in-Ok-print-clause-read_fault g c e files tells = (
   rw (← c.as_slice.ensures.value) c.in-Ok-print.ensures.all,
 )
 
-pub returns-in-Ok-print-clause-usage_only : goal.returns-in-Ok-print-clause-usage_only
-returns-in-Ok-print-clause-usage_only g c none = inl (c.code.ensures ∙ c.in-Ok.ensures.words.1 none)
+pub returns-in-Ok-print-clause-usage : goal.returns-in-Ok-print-clause-usage
+returns-in-Ok-print-clause-usage g c = record {
+  only = λ two. c.in-Ok.ensures.usage.0 (sym c.code.ensures ∙ two);
+  always = λ none. inl (c.code.ensures ∙ c.in-Ok.ensures.usage.1 none);
+}
 
 pub returns-in-Ok-print-clause-complete : goal.returns-in-Ok-print-clause-complete
 returns-in-Ok-print-clause-complete g c clean files tells =
-    inr (subst (λ (s : ℕ). IsStatus (plan_for (map string_bytes c.args.words.now)) files s) (sym c.code.ensures)
+    inr (subst (λ (s : ℕ). IsStatus (plan_for c.args.words.now) files s) (sym c.code.ensures)
     (complete_from_report _ files _ _ (c.in-Ok.ensures.report files tells) (λ seven. clean.reads (c.in-Ok.ensures.cause.read_fault seven))))
 
 pub returns-in-Err-Fault-clause-cut_short : goal.returns-in-Err-Fault-clause-cut_short

@@ -1,11 +1,11 @@
 use Rattle.osl_job.proofs.Verdicts.{bad_source, treeless_source, untyped_source, typed_source, tokens_lie}
-use Rattle.osl_job.proofs.source.read_source.Goals as goal
+use Rattle.osl_job.proofs.shader_text.read_shader_text.Goals as goal
 
 pub returns-in-Err-Bad-clause-is : goal.returns-in-Err-Bad-clause-is
-returns-in-Err-Bad-clause-is c = bad_source c.args.text.now c.in-Err-Bad.field-0 c.in-Err-Bad.field-0-0 c.in-Err-Bad.field-0-1 c.in-Err-Bad.field-0-is c.in-Err-Bad.ensures.bad
+returns-in-Err-Bad-clause-is c = bad_source c.one_reading.ensures.one c.args.text.now c.in-Err-Bad.field-0 c.in-Err-Bad.field-0-0 c.in-Err-Bad.field-0-1 c.in-Err-Bad.field-0-is c.in-Err-Bad.ensures.bad
 
 pub built-requires : goal.built-requires
-built-requires c = tokens_lie c.args.text.now c.in-Ok.tokens.items _ c.as_slice-in-Ok-check.ensures.value c.in-Ok.ensures.tokens
+built-requires c = tokens_lie c.tokens_lie_within.ensures c.args.text.now c.in-Ok.tokens.items _ c.as_slice-in-Ok-check.ensures.value c.in-Ok.ensures.tokens
 
 pub returns-in-Ok-check-clause-is : goal.returns-in-Ok-check-clause-is
 returns-in-Ok-check-clause-is c =
