@@ -19,7 +19,7 @@ type Row = (
     &'static str,
 );
 
-static ROWS: [Row; 42] = [
+static ROWS: [Row; 36] = [
     (
         "shade g p",
         GROUP,
@@ -84,19 +84,6 @@ static ROWS: [Row; 42] = [
         0,
         "freeze 0\npoint 0 worker 0 after 0\n out a.r 24\nend\n",
     ),
-    ("", GROUP, ADD1, "point", 2, "usage\n"),
-    ("shade g", GROUP, ADD1, "point", 2, "usage\n"),
-    ("paint g p", GROUP, ADD1, "point", 2, "usage\n"),
-    ("demo 1", GROUP, ADD1, "point", 11, "not built\n"),
-    (
-        "shade g p --serial",
-        GROUP,
-        ADD1,
-        "point",
-        11,
-        "not built\n",
-    ),
-    ("shade -g p", GROUP, ADD1, "point", 11, "not built\n"),
     ("shade none p", GROUP, ADD1, "point", 6, "none: absent\n"),
     ("shade g p", GROUP, "", "point", 6, "add1.osl: absent\n"),
     ("shade g none", GROUP, ADD1, "point", 6, "none: absent\n"),
@@ -295,6 +282,31 @@ static ROWS: [Row; 42] = [
     ),
 ];
 
+/// Words over the files of the first row; the status, and what is printed.
+static WORDS: [(&str, u8, &str); 21] = [
+    ("", 2, "usage\n"),
+    ("shade", 2, "usage\n"),
+    ("shade g", 2, "usage\n"),
+    ("shade g p more", 2, "usage\n"),
+    ("shade -g p", 2, "usage\n"),
+    ("shade g p --workers 17", 2, "usage\n"),
+    ("shade g p --serial --settle", 2, "usage\n"),
+    ("shade g -- --serial", 2, "usage\n"),
+    ("oslc in", 2, "usage\n"),
+    ("demo 0", 2, "usage\n"),
+    ("paint g p", 2, "usage\n"),
+    ("shade g p --serial", 11, "not built\n"),
+    ("shade g p --settle", 11, "not built\n"),
+    ("shade g p --edits e", 11, "not built\n"),
+    ("shade g p --workers 1", 11, "not built\n"),
+    ("shade g p --budget 1", 11, "not built\n"),
+    ("shade g p --from oso", 11, "not built\n"),
+    ("oslc in out", 11, "not built\n"),
+    ("demo 1", 11, "not built\n"),
+    ("demo-text 1", 11, "not built\n"),
+    ("shade --workers 4 -- none p", 6, "none: absent\n"),
+];
+
 fn words_of(alloc: Global, line: &str) -> Result<Vec<String>, AllocError> {
     let mut words = Vec::new(alloc);
     for word in line.split_whitespace() {
@@ -335,6 +347,20 @@ fn each_form_and_each_refusal(rt: HostRuntime) -> Result<(), Fail> {
         let status = run_plain(alloc, words.as_slice(), &mut store, &mut out);
         assert_eq!(rt; status, row.4, "{} {}", row.0, row.5);
         assert_eq!(rt; out.bytes(), row.5.as_bytes(), "{} {}", row.0, row.5);
+    }
+    Ok(())
+}
+
+#[test]
+fn each_kind_of_words(rt: HostRuntime) -> Result<(), Fail> {
+    let alloc = rt.alloc();
+    for row in &WORDS {
+        let words = words_of(alloc, row.0)?;
+        let mut store = store_of(alloc, &ROWS[0], 0)?;
+        let mut out = MemorySink::new(alloc, Vec::new(alloc));
+        let status = run_plain(alloc, words.as_slice(), &mut store, &mut out);
+        assert_eq!(rt; status, row.1, "{}", row.0);
+        assert_eq!(rt; out.bytes(), row.2.as_bytes(), "{}", row.0);
     }
     Ok(())
 }

@@ -1,0 +1,27 @@
+//! A stored run of the system's files: one that is read, and each way in which a read is refused. The gate runs it as a
+//! user who may not open a file that is closed to all.
+#![tactic(auto)]
+
+use osl_store::{FileStore, ReadError, Store};
+use std::fs;
+use std::fs::Permissions;
+use std::io;
+use std::os::unix::fs::PermissionsExt;
+
+fn main(rt: HostRuntime) -> io::Result<()> {
+    fs::write(&rt, "closed", "bytes")?;
+    fs::set_permissions(&rt, "closed", Permissions::from_mode(0))?;
+    let mut store = FileStore::new(&rt);
+    for name in ["open", "long", "closed", ".", "missing"] {
+        let mut bytes = Vec::new(rt.alloc());
+        let answer = match store.read(name, 10, &mut bytes) {
+            Ok(()) => "read",
+            Err(ReadError::Absent) => "absent",
+            Err(ReadError::Failed) => "read fault",
+            Err(ReadError::TooLarge) => "too large",
+            Err(ReadError::Memory) => "out of memory",
+        };
+        println!(rt; "{name}: {answer}")?;
+    }
+    Ok(())
+}
