@@ -8,15 +8,15 @@ use Rattle.std.proofs.lemmas.List.{drop_all, reverse-append}
 use Rattle.std.proofs.lemmas.List.Concat.{flat_map-append}
 use Rattle.std.proofs.lemmas.List.Elements.{All-from_recursion}
 use Rattle.std.proofs.lemmas.List.Splits.{slice_split_at}
-use Rattle.oso_write.specs.Words.{behind}
-use Rattle.oso_write.specs.Lines.{Line}
+use Rattle.osl_valuetext.specs.Words.{behind, Line}
 use Rattle.oso_write.specs.Canon.{line_text}
-use Rattle.oso_read.specs.declared.place.Place.TheVariants.{Open}
-use Rattle.oso_read.specs.Text.{is_blank, has_bytes, pieces, words, means, Numbered, numbered, told_from}
+use Rattle.osl_valuetext.specs.declared.place.Place.TheVariants.{Open}
+use Rattle.osl_valuetext.specs.Splitting.{is_blank, has_bytes, pieces, words}
+use Rattle.oso_read.specs.Text.{means, Numbered, numbered, told_from}
 use Rattle.oso_read.specs.Hints.{said}
 use Rattle.oso_read.specs.Spelt.{is_line_feed}
 use Rattle.oso_read.proofs.FirstLine.{followed}
-use Rattle.oso_read.proofs.Runs.{Holds, pieces_joined}
+use Rattle.osl_valuetext.proofs.Runs.{Holds, pieces_joined}
 use Rattle.oso_read.proofs.Dull.{is_printed}
 use Rattle.oso_read.proofs.Fields.{IsWord, printed_both}
 

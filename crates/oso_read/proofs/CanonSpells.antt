@@ -20,11 +20,12 @@ use Rattle.oso_code.specs.Valid.{IsValid, most_ops}
 use Rattle.oso_code.proofs.Chained.{valid_section}
 use Rattle.oso_code.proofs.Nested.{op_facts}
 use Rattle.oso_write.specs.Canon.{canon}
-use Rattle.oso_write.specs.Lines.{Line, header, meta_text, shader_line, symbol_line, name_at, op_line, section_name, section_lines, lines_of}
-use Rattle.oso_write.specs.Words.{kind_name, class_name}
+use Rattle.osl_valuetext.specs.Words.{Line}
+use Rattle.oso_write.specs.Lines.{header, meta_text, shader_line, symbol_line, name_at, op_line, section_name, section_lines, lines_of}
+use Rattle.oso_write.specs.Names.{kind_name, class_name}
 use Rattle.oso_read.specs.Hints.{said}
 use Rattle.oso_read.specs.Spelt.{datum_spells, symbol_spells, can_spell, Spelt}
-use Rattle.oso_read.proofs.Alls.{all_map, all_both, all_taken, all_dropped, all_flat, all_pass, all_at}
+use Rattle.osl_valuetext.proofs.Alls.{all_map, all_both, all_taken, all_dropped, all_flat, all_pass, all_at}
 use Rattle.oso_read.proofs.CanonLines.{IsLine, told_again, lines_end}
 use Rattle.oso_read.proofs.Data.{IsBack}
 use Rattle.oso_read.proofs.DataLines.{data_are, metas_back, SymbolIs, symbol_is, symbol_data, symbol_rest, symbol_fronts}

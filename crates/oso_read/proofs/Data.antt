@@ -11,21 +11,23 @@ use Rattle.oso_code.specs.declared.symbol.Meta.{Meta}
 use Rattle.oso_code.specs.Holding.{is_type, makes_up}
 use Rattle.oso_code.specs.Names.{is_name}
 use Rattle.oso_code.specs.Symbols.{datum_fits}
-use Rattle.oso_write.specs.Lines.{Line, meta_text}
-use Rattle.oso_write.specs.Words.{behind, type_text, value_words}
-use Rattle.oso_read.specs.declared.place.Place.{Place}
-use Rattle.oso_read.specs.declared.place.Place.TheVariants.{Open, Braced}
-use Rattle.oso_read.specs.Text.{next, is_open, is_blank, pieces}
+use Rattle.osl_valuetext.specs.Words.{Line, behind, type_text, value_words}
+use Rattle.oso_write.specs.Lines.{meta_text}
+use Rattle.osl_valuetext.specs.declared.place.Place.{Place}
+use Rattle.osl_valuetext.specs.declared.place.Place.TheVariants.{Open, Braced}
+use Rattle.osl_valuetext.specs.Splitting.{next, is_open, is_blank, pieces, is_comma}
 use Rattle.oso_read.specs.Hints.{closes, is_hint, is_datum}
-use Rattle.oso_read.specs.Literals.{◌>>=◌, Values, string_at, values_at}
-use Rattle.oso_read.specs.Types.{type_at, is_comma, datum_of, is_meta, in_braces, meta_at}
-use Rattle.oso_read.proofs.Runs.{run, run_both, Holds, pieces_joined, rejoined, pieces-rejoined}
-use Rattle.oso_read.proofs.Rounds.{between}
+use Rattle.osl_valuetext.specs.Literals.{◌>>=◌, Values, string_at, values_at}
+use Rattle.osl_valuetext.specs.Types.{type_at}
+use Rattle.oso_read.specs.Data.{datum_of, is_meta, in_braces, meta_at}
+use Rattle.osl_valuetext.proofs.Runs.{run, run_both, Holds, pieces_joined, rejoined, pieces-rejoined}
+use Rattle.osl_valuetext.proofs.Rounds.{between}
 use Rattle.oso_read.proofs.Dull.{is_printed, within, dull_name}
-use Rattle.oso_read.proofs.Escapes.{AreBytes, string_written, string_read}
-use Rattle.oso_read.proofs.Plains.{bound}
-use Rattle.oso_read.proofs.TypeTexts.{type_written, type_read}
-use Rattle.oso_read.proofs.ValueWords.{MakesUp, makes_up_facts, values_written, values_read}
+use Rattle.osl_valuetext.proofs.Escapes.{AreBytes, string_written, string_read}
+use Rattle.osl_valuetext.proofs.Plains.{bound}
+use Rattle.osl_valuetext.proofs.TypeTexts.{type_written, type_read}
+use Rattle.osl_valuetext.proofs.ValueWords.{MakesUp, values_written, values_read}
+use Rattle.oso_read.proofs.MadeUp.{makes_up_facts}
 use Rattle.oso_read.proofs.Fields.{IsField, IsWord, within_both, printed_both, dull_field, type_field, value_fields}
 
 -- a datum that a text can spell

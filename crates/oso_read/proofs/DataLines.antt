@@ -21,29 +21,33 @@ use Rattle.oso_code.specs.declared.symbol.Symbol.{Symbol}
 use Rattle.oso_code.specs.Holding.{is_closure, is_type, makes_up}
 use Rattle.oso_code.specs.Names.{is_name}
 use Rattle.oso_code.specs.Symbols.{is_empty, is_parameter, datum_fits, parameter_fits, global_fits, has_value, is_value_of, metadata_fits, symbol_fits}
-use Rattle.oso_write.specs.Lines.{Line, meta_text, start_words, symbol_line}
-use Rattle.oso_write.specs.Words.{kind_name, class_name, type_text, type_words, value_words}
+use Rattle.osl_valuetext.specs.Words.{Line, type_text, value_words}
+use Rattle.oso_write.specs.Lines.{meta_text, start_words, symbol_line}
+use Rattle.oso_write.specs.Names.{kind_name, class_name, type_words}
 use Rattle.oso_read.specs.Hints.{begins_hint, Saying, word_count, saying, said}
-use Rattle.oso_read.specs.Literals.{◌>>=◌, each, only_word, text_at, is_short, Values, values_at}
-use Rattle.oso_read.specs.Types.{type_at, meta_at}
-use Rattle.oso_read.specs.SymbolLine.{all_kinds, kind_named, Head, head_words, head_at, all_classes, class_named, Typed, closure_words, typed_words, value_at, start_at, metas_at, named_at, class_at, symbol_words, symbol_at}
+use Rattle.osl_valuetext.specs.Literals.{◌>>=◌, each, text_at, is_short, Values, values_at, value_at}
+use Rattle.oso_read.specs.Text.{only_word}
+use Rattle.osl_valuetext.specs.Types.{type_at}
+use Rattle.oso_read.specs.Data.{meta_at}
+use Rattle.oso_read.specs.SymbolLine.{all_kinds, kind_named, Head, head_words, head_at, all_classes, class_named, Typed, closure_words, typed_words, start_at, metas_at, named_at, class_at, symbol_words, symbol_at}
 use Rattle.oso_read.specs.OpLine.{begins_with, is_end_line}
 use Rattle.oso_read.specs.Reading.{begins_body}
 use Rattle.oso_read.specs.Spelt.{are_bytes, is_text, datum_spells, start_spells, symbol_spells}
-use Rattle.oso_read.proofs.Alls.{all_map, all_both, all_pass, pass_all}
-use Rattle.oso_read.proofs.Plains.{bound, each_all}
-use Rattle.oso_read.proofs.Canonicals.{each_written, each_read}
-use Rattle.oso_read.proofs.Escapes.{IsByte, AreBytes}
-use Rattle.oso_read.proofs.TypeTexts.{find_passes, typed, type_written, type_read}
-use Rattle.oso_read.proofs.ValueWords.{MakesUp, makes_up_facts, IsText, text_written, text_read, values_written, values_read}
+use Rattle.osl_valuetext.proofs.Alls.{all_map, all_both, all_pass, pass_all}
+use Rattle.osl_valuetext.proofs.Plains.{bound, each_all}
+use Rattle.osl_valuetext.proofs.Canonicals.{each_written, each_read}
+use Rattle.osl_valuetext.proofs.Escapes.{IsByte, AreBytes}
+use Rattle.osl_valuetext.proofs.TypeTexts.{find_passes, typed, type_written, type_read}
+use Rattle.osl_valuetext.proofs.ValueWords.{MakesUp, IsText, text_written, text_read, values_written, values_read}
+use Rattle.oso_read.proofs.MadeUp.{makes_up_facts}
 use Rattle.oso_read.proofs.Fields.{IsFront, dull_front, name_front, type_front, value_fronts}
 use Rattle.oso_read.proofs.Data.{IsData, IsBack, meta_back, meta_written, meta_read}
 use Rattle.oso_read.proofs.SaidLines.{IsNoHint, BeginsHint, backs_begin, fronts_begin, parts_are, says_parts, first_said}
 use Rattle.oso_read.proofs.SplitLines.{IsWhole, IsSplit, words_of_split}
 use Rattle.oso_read.proofs.Dull.{dull_all}
-use Rattle.oso_read.specs.declared.place.Place.TheVariants.{Open}
-use Rattle.oso_read.specs.Text.{is_blank}
-use Rattle.oso_read.proofs.Runs.{run}
+use Rattle.osl_valuetext.specs.declared.place.Place.TheVariants.{Open}
+use Rattle.osl_valuetext.specs.Splitting.{is_blank}
+use Rattle.osl_valuetext.proofs.Runs.{run}
 
 -- ---- tests of lists, as facts on their elements
 

@@ -11,11 +11,10 @@ use Rattle.osl_decimal.specs.Canonical.{places, fraction_text, magnitude_text, f
 use Rattle.osl_decimal.specs.Decimal.{are_digits}
 use Rattle.osl_decimal.proofs.RoundTrip.{digit_bounds, digits-places, digits-decimal}
 use Rattle.oso_code.specs.Names.{is_name, begins_name, continues_name, is_joiner, longest_name}
-use Rattle.oso_read.specs.declared.place.Place.{Place}
-use Rattle.oso_read.specs.declared.place.Place.TheVariants.{Open, Quoted, Braced, BracedQuoted}
-use Rattle.oso_read.specs.Text.{next, is_open, is_blank}
-use Rattle.oso_read.specs.Types.{is_comma}
-use Rattle.oso_read.proofs.Runs.{run, Holds}
+use Rattle.osl_valuetext.specs.declared.place.Place.{Place}
+use Rattle.osl_valuetext.specs.declared.place.Place.TheVariants.{Open, Quoted, Braced, BracedQuoted}
+use Rattle.osl_valuetext.specs.Splitting.{next, is_open, is_blank, is_comma}
+use Rattle.osl_valuetext.proofs.Runs.{run, Holds}
 
 -- a byte of printed text
 abbrev pub is_printed : ℕ → Bool

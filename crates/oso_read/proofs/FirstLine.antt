@@ -4,8 +4,9 @@ use Rattle.std.specs.List.{slice_split, onto_first, position, position_or_len}
 use Rattle.std.specs.Str.Lines.{lines, lines_of_parts, strip_carriage_return}
 use Rattle.std.proofs.lemmas.Bool.{ltb-true, ltb-false}
 use Rattle.std.proofs.lemmas.List.Splits.{slice_split_first}
-use Rattle.oso_write.specs.Lines.{Line}
-use Rattle.oso_read.specs.Text.{means, words, numbered, told_from}
+use Rattle.osl_valuetext.specs.Words.{Line}
+use Rattle.oso_read.specs.Text.{means, numbered, told_from}
+use Rattle.osl_valuetext.specs.Splitting.{words}
 use Rattle.oso_read.specs.Spelt.{is_line_feed}
 
 placed_some : (b : Bool) (k i : ℕ) → cond b (Some k) None ≡ Some i → (b ≡ true) × (k ≡ i)

@@ -2,7 +2,7 @@
 use Rattle.std.proofs.Common.{◌≡◌, ℕ, zero, suc, List, [], ◌∷◌, ◌++◌, take, drop, filter, Option, Some, sym, ap, ◌∙◌, append-nil}
 use Rattle.std.specs.Prelude.{option_map}
 use Rattle.std.specs.List.{list_all, AllByRecursion}
-use Rattle.oso_write.specs.Lines.{Line}
+use Rattle.osl_valuetext.specs.Words.{Line}
 use Rattle.oso_read.specs.Hints.{is_hint, is_datum, Saying, word_count, saying, said}
 use Rattle.oso_read.proofs.Passing.{some_of, tested}
 use Rattle.oso_read.proofs.SaidLines.{IsNoHint, parts_are, says_parts}

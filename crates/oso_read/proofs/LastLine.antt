@@ -8,10 +8,11 @@ use Rattle.std.proofs.lemmas.List.{get_or_at, length-append, length-reverse, len
 use Rattle.std.proofs.lemmas.List.Elements.{filter-append}
 use Rattle.std.proofs.lemmas.List.Folds.{prefix_len-append}
 use Rattle.std.proofs.lemmas.List.Sums.{suffix_len-le-length}
-use Rattle.oso_read.specs.Text.{words, means, Numbered, numbered, told_from, told, line_count}
+use Rattle.osl_valuetext.specs.Splitting.{words}
+use Rattle.oso_read.specs.Text.{means, Numbered, numbered, told_from, told, line_count}
 use Rattle.oso_read.specs.Spelt.{is_line_feed}
 use Rattle.oso_read.specs.Reading.{is_ended}
-use Rattle.oso_read.proofs.Alls.{last_of_all}
+use Rattle.osl_valuetext.proofs.Alls.{last_of_all}
 use Rattle.oso_read.proofs.CanonLines.{ends_in_feed}
 
 abbrev inside : ℕ → Bool

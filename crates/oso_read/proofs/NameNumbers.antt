@@ -14,13 +14,13 @@ use Rattle.oso_code.specs.Names.{is_name, main_name}
 use Rattle.oso_code.specs.Ops.{is_number_of}
 use Rattle.oso_code.specs.Sections.{owner_fits, may_have_section}
 use Rattle.oso_code.specs.Symbols.{is_parameter, is_taken, symbol_fits, symbol_at_fits, are_parameters, parameter_fits}
-use Rattle.oso_write.specs.Lines.{Line, name_at, section_name}
-use Rattle.oso_read.specs.Literals.{each}
+use Rattle.osl_valuetext.specs.Words.{Line}
+use Rattle.oso_write.specs.Lines.{name_at, section_name}
+use Rattle.osl_valuetext.specs.Literals.{each}
 use Rattle.oso_read.specs.SymbolNames.{names_of}
 use Rattle.oso_read.specs.Reading.{symbol_number, owner_named, op_named}
-use Rattle.oso_read.proofs.TypeTexts.{find_passes}
+use Rattle.osl_valuetext.proofs.TypeTexts.{find_passes}
 use Rattle.oso_read.proofs.Passing.{some_of, maps}
-use Rattle.oso_read.proofs.TypeTexts.{find_passes}
 
 -- ---- the first symbol of a name
 

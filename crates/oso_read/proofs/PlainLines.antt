@@ -16,13 +16,15 @@ use Rattle.osl_value.specs.OpText.{name_of}
 use Rattle.osl_decimal.specs.Decimal.{is_numeral, are_digits}
 use Rattle.osl_decimal.proofs.RoundTrip.{numeral-decimal, digit_bounds}
 use Rattle.oso_code.specs.Names.{is_name, begins_name, continues_name, longest_name}
-use Rattle.oso_write.specs.Lines.{Line, header}
+use Rattle.osl_valuetext.specs.Words.{Line}
+use Rattle.oso_write.specs.Lines.{header}
 use Rattle.oso_read.specs.Hints.{Saying, saying, said}
-use Rattle.oso_read.specs.Literals.{each, only_word, decimal_at}
+use Rattle.osl_valuetext.specs.Literals.{each, decimal_at}
+use Rattle.oso_read.specs.Text.{only_word}
 use Rattle.oso_read.specs.OpLine.{OpWords, op_words, op_at, code_words, code_at, is_end, begins_with, is_code_line, is_end_line}
 use Rattle.oso_read.specs.Reading.{says_header, says_end, begins_body}
-use Rattle.oso_read.proofs.Canonicals.{each_written, each_read, decimal_written, decimal_read}
-use Rattle.oso_read.proofs.Alls.{all_both}
+use Rattle.osl_valuetext.proofs.Canonicals.{each_written, each_read, decimal_written, decimal_read}
+use Rattle.osl_valuetext.proofs.Alls.{all_both}
 use Rattle.oso_read.proofs.Fields.{name_front, decimal_front}
 use Rattle.oso_read.proofs.FirstWord.{words_of, saying_said, saying_begins}
 use Rattle.oso_read.proofs.SaidLines.{IsNoHint}

@@ -14,14 +14,15 @@ use Rattle.oso_code.specs.Names.{is_name}
 use Rattle.oso_code.specs.Ops.{is_number_of, op_fits, takes_types, type_at, range_count}
 use Rattle.oso_code.specs.Sections.{owner_fits}
 use Rattle.oso_code.specs.Valid.{most_ops}
-use Rattle.oso_write.specs.Lines.{Line, name_at, op_line, section_name}
+use Rattle.osl_valuetext.specs.Words.{Line}
+use Rattle.oso_write.specs.Lines.{name_at, op_line, section_name}
 use Rattle.oso_read.specs.declared.body.Start.{Start}
 use Rattle.oso_read.specs.declared.error.OsoKind.{OsoKind}
 use Rattle.oso_read.specs.declared.error.OsoKind.TheVariants as kinds
 use Rattle.oso_read.specs.Faults.{Fault, ◌>>=◌, at_line, holding}
 use Rattle.oso_read.specs.Text.{Numbered}
 use Rattle.oso_read.specs.Hints.{Saying, saying}
-use Rattle.oso_read.specs.Literals.{each}
+use Rattle.osl_valuetext.specs.Literals.{each}
 use Rattle.oso_read.specs.OpLine.{OpWords, op_at, code_at, is_code_line, is_end_line}
 use Rattle.oso_read.specs.Reading.{heard, Body, owner_named, last_start, owner_of_start, owner_now, may_follow, symbol_number, section_begun, code_read, op_of, op_added, op_read, body_line, Filled, filled_from}
 use Rattle.oso_read.proofs.NameNumbers.{Fit, numbers_written, name_is_name, owner_written, owner_is_name, op_written}

@@ -13,7 +13,8 @@ use Rattle.oso_code.specs.Sections.{owner_fits, owner_follows, is_body, section_
 use Rattle.oso_code.specs.Valid.{most_ops, IsValid}
 use Rattle.oso_code.proofs.Chained.{Lies, valid_section}
 use Rattle.oso_code.proofs.Fitting.{unless_none, both_none}
-use Rattle.oso_write.specs.Lines.{Line, op_line, section_name, section_lines}
+use Rattle.osl_valuetext.specs.Words.{Line}
+use Rattle.oso_write.specs.Lines.{op_line, section_name, section_lines}
 use Rattle.oso_read.specs.declared.body.Start.{Start}
 use Rattle.oso_read.specs.Faults.{Fault}
 use Rattle.oso_read.specs.Text.{Numbered}

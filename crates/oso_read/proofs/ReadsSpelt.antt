@@ -6,11 +6,13 @@ use Rattle.std.proofs.lemmas.Bool.{and_from}
 use Rattle.std.proofs.lemmas.List.{map-append}
 use Rattle.oso_code.specs.declared.raw.Raw.{Raw}
 use Rattle.oso_code.specs.declared.symbol.Symbol.{Symbol}
-use Rattle.oso_write.specs.Lines.{Line, header, symbol_line, lines_of}
+use Rattle.osl_valuetext.specs.Words.{Line}
+use Rattle.oso_write.specs.Lines.{header, symbol_line, lines_of}
 use Rattle.oso_read.specs.declared.error.OsoKind.{OsoKind}
 use Rattle.oso_read.specs.declared.error.OsoKind.TheVariants as kinds
 use Rattle.oso_read.specs.Faults.{Fault, fault, ◌>>=◌}
-use Rattle.oso_read.specs.Text.{Numbered, words, means, told, line_count}
+use Rattle.oso_read.specs.Text.{Numbered, means, told, line_count}
+use Rattle.osl_valuetext.specs.Splitting.{words}
 use Rattle.oso_read.specs.Hints.{saying, said}
 use Rattle.oso_read.specs.OpLine.{is_end_line}
 use Rattle.oso_read.specs.Spelt.{symbol_spells, can_spell, is_line_feed, Spelt}

@@ -10,8 +10,9 @@ use Rattle.oso_code.specs.declared.symbol.Symbol.{Symbol}
 use Rattle.oso_code.specs.Names.{is_name}
 use Rattle.oso_code.specs.Symbols.{are_parameters, datum_fits, fits_behind, is_taken, symbol_fits}
 use Rattle.oso_code.specs.Valid.{most_symbols, most_slots, slots_of}
-use Rattle.oso_write.specs.Lines.{Line, header, meta_text, symbol_line}
-use Rattle.oso_write.specs.Words.{kind_name}
+use Rattle.osl_valuetext.specs.Words.{Line}
+use Rattle.oso_write.specs.Lines.{header, meta_text, symbol_line}
+use Rattle.oso_write.specs.Names.{kind_name}
 use Rattle.oso_read.specs.declared.error.OsoKind.{OsoKind}
 use Rattle.oso_read.specs.declared.error.OsoKind.TheVariants as kinds
 use Rattle.oso_read.specs.Faults.{Fault, fault, ◌>>=◌, at_line, holding}

@@ -4,7 +4,7 @@ use Rattle.std.specs.Prelude.{option_map}
 use Rattle.std.specs.List.{list_all, AllByRecursion}
 use Rattle.std.proofs.lemmas.Bool.{and_parts, and_from, cond-true}
 use Rattle.std.proofs.lemmas.List.{take_at, drop_at}
-use Rattle.oso_write.specs.Lines.{Line}
+use Rattle.osl_valuetext.specs.Words.{Line}
 use Rattle.oso_read.specs.Hints.{begins_hint, is_hint, is_datum, Saying, word_count, saying, said}
 use Rattle.oso_read.proofs.Fields.{IsFront}
 use Rattle.oso_read.proofs.Data.{IsBack}

@@ -14,16 +14,17 @@ use Rattle.oso_code.specs.declared.symbol.Symbol.{Symbol}
 use Rattle.oso_code.specs.Ops.{op_fits}
 use Rattle.oso_code.specs.Sections.{owner_fits}
 use Rattle.oso_code.specs.Valid.{most_ops}
-use Rattle.oso_write.specs.Lines.{Line, name_at, op_line, section_name}
+use Rattle.osl_valuetext.specs.Words.{Line}
+use Rattle.oso_write.specs.Lines.{name_at, op_line, section_name}
 use Rattle.oso_read.specs.declared.body.Start.{Start}
 use Rattle.oso_read.specs.declared.error.OsoKind.TheVariants as kinds
 use Rattle.oso_read.specs.Faults.{◌>>=◌, at_line, holding}
 use Rattle.oso_read.specs.Text.{Numbered}
 use Rattle.oso_read.specs.Hints.{Saying, saying, said}
-use Rattle.oso_read.specs.Literals.{each}
+use Rattle.osl_valuetext.specs.Literals.{each}
 use Rattle.oso_read.specs.OpLine.{OpWords, op_at, code_at, is_code_line, is_end_line}
 use Rattle.oso_read.specs.Reading.{Body, empty_body, symbol_number, owner_named, last_start, owner_now, may_follow, section_begun, code_read, op_named, op_of, op_added, op_read, body_line, Filled, filled_from, sections_of}
-use Rattle.oso_read.proofs.Canonicals.{each_read}
+use Rattle.osl_valuetext.proofs.Canonicals.{each_read}
 use Rattle.oso_read.proofs.NameNumbers.{number_names, owner_names, op_names}
 use Rattle.oso_read.proofs.Passing.{ok_of, goes_on, line_gave, hears, some_from_ok, holds, follows, maps}
 use Rattle.oso_read.proofs.PlainLines.{code_line_says, op_line_says}

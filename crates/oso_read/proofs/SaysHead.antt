@@ -6,8 +6,9 @@ use Rattle.std.specs.Option.{ok_or}
 use Rattle.std.proofs.lemmas.Bool.{and_from}
 use Rattle.oso_code.specs.declared.symbol.Symbol.{Symbol}
 use Rattle.oso_code.specs.Symbols.{fits_behind}
-use Rattle.oso_write.specs.Lines.{Line, header, meta_text, symbol_line}
-use Rattle.oso_write.specs.Words.{kind_name}
+use Rattle.osl_valuetext.specs.Words.{Line}
+use Rattle.oso_write.specs.Lines.{header, meta_text, symbol_line}
+use Rattle.oso_write.specs.Names.{kind_name}
 use Rattle.oso_read.specs.declared.error.OsoKind.{OsoKind}
 use Rattle.oso_read.specs.declared.error.OsoKind.TheVariants as kinds
 use Rattle.oso_read.specs.Faults.{fault, ◌>>=◌, at_line, holding}

@@ -13,7 +13,8 @@ use Rattle.oso_code.specs.Symbols.{is_empty, datum_fits}
 use Rattle.oso_code.specs.Valid.{most_ops, deep_faults, IsValid}
 use Rattle.oso_code.proofs.Chained.{valid_section}
 use Rattle.oso_code.proofs.Fitting.{all_fit}
-use Rattle.oso_write.specs.Lines.{Line, header, symbol_line, section_name, section_lines}
+use Rattle.osl_valuetext.specs.Words.{Line}
+use Rattle.oso_write.specs.Lines.{header, symbol_line, section_name, section_lines}
 use Rattle.oso_read.specs.declared.error.OsoKind.TheVariants as kinds
 use Rattle.oso_read.specs.Faults.{Fault, fault, ◌>>=◌, at_line}
 use Rattle.oso_read.specs.Text.{Numbered, told, line_count}
@@ -28,7 +29,7 @@ use Rattle.oso_read.proofs.PlainLines.{EndReads, end_line_reads, code_line_reads
 use Rattle.oso_read.proofs.NameNumbers.{owner_is_name}
 use Rattle.oso_read.proofs.ReadValid.{made, closing, filling, declaring}
 use Rattle.oso_read.proofs.ReadsSections.{start_of, sections_read, sections_are, main_last, chain}
-use Rattle.oso_read.proofs.Alls.{all_at}
+use Rattle.osl_valuetext.proofs.Alls.{all_at}
 use Rattle.oso_read.proofs.ReadsSymbols.{Say, EndsWith, ends_with, said_first, said_rest, none_said, no_more, shader_words, opened_reads, declared_reads, BodyWords}
 use Rattle.oso_read.proofs.ReadsSymbols as symbols_read
 

@@ -2,13 +2,14 @@
 use Rattle.std.proofs.Common.{◌≡◌, ℕ, ◌+◌, Bool, true, false, ◌&&◌, cond, List, [], ◌∷◌, take, drop, filter, Some, None, refl, ap, subst, ◌∙◌}
 use Rattle.std.specs.List.{list_all, onto_first, AllByRecursion}
 use Rattle.std.specs.Str.Lines.{lines}
-use Rattle.oso_write.specs.Lines.{Line}
-use Rattle.oso_read.specs.declared.place.Place.{Place}
-use Rattle.oso_read.specs.declared.place.Place.TheVariants.{Open}
-use Rattle.oso_read.specs.Text.{next, is_open, is_blank, has_bytes, pieces, words, means, Numbered, numbered, told_from}
+use Rattle.osl_valuetext.specs.Words.{Line}
+use Rattle.osl_valuetext.specs.declared.place.Place.{Place}
+use Rattle.osl_valuetext.specs.declared.place.Place.TheVariants.{Open}
+use Rattle.osl_valuetext.specs.Splitting.{next, is_open, is_blank, has_bytes, pieces, words}
+use Rattle.oso_read.specs.Text.{means, Numbered, numbered, told_from}
 use Rattle.oso_read.specs.Hints.{is_hint, is_datum, Saying, word_count, saying}
-use Rattle.oso_read.proofs.Alls.{all_kept, all_taken}
-use Rattle.oso_read.proofs.Runs.{run}
+use Rattle.osl_valuetext.proofs.Alls.{all_kept, all_taken}
+use Rattle.osl_valuetext.proofs.Runs.{run}
 use Rattle.oso_read.proofs.SaidLines.{parts_are}
 
 abbrev pub IsWhole : List ℕ → Type 0

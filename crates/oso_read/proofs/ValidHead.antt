@@ -16,15 +16,17 @@ use Rattle.oso_code.specs.declared.symbol.Meta.{Meta}
 use Rattle.oso_code.specs.Holding.{is_type, fits_int, fits_float, fits_base, makes_up}
 use Rattle.oso_code.specs.Names.{is_name}
 use Rattle.oso_code.specs.Symbols.{datum_fits}
-use Rattle.oso_write.specs.Lines.{Line}
-use Rattle.oso_read.specs.declared.place.Place.TheVariants.{Open}
+use Rattle.osl_valuetext.specs.Words.{Line}
+use Rattle.osl_valuetext.specs.declared.place.Place.TheVariants.{Open}
 use Rattle.oso_read.specs.Hints.{Saying}
-use Rattle.oso_read.specs.Literals.{each, only_word, string_at, Values, values_at}
+use Rattle.osl_valuetext.specs.Literals.{each, string_at, Values, values_at}
+use Rattle.oso_read.specs.Text.{only_word}
 use Rattle.oso_read.specs.SymbolLine.{kind_named, Head, head_words, head_at}
-use Rattle.oso_read.specs.Text.{pieces}
-use Rattle.oso_read.specs.Types.{opens_length, base_named, length_or_none, type_at, is_comma, datum_of, is_meta, in_braces, meta_at}
+use Rattle.osl_valuetext.specs.Splitting.{pieces, is_comma}
+use Rattle.osl_valuetext.specs.Types.{opens_length, base_named, length_or_none, type_at}
+use Rattle.oso_read.specs.Data.{datum_of, is_meta, in_braces, meta_at}
 use Rattle.oso_read.proofs.Passing.{some_of, follows, maps, tested}
-use Rattle.oso_read.proofs.Plains.{each_all, AreNumbers, numbers_are, AreStrings, strings_are}
+use Rattle.osl_valuetext.proofs.Plains.{each_all, AreNumbers, numbers_are, AreStrings, strings_are}
 
 -- ---- values
 

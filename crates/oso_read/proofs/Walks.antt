@@ -3,7 +3,7 @@ use Rattle.std.proofs.Common.{◌≡◌, ℕ, true, false, cond, List, ◌∷◌
 use Rattle.std.specs.Prelude.{Result}
 use Rattle.osl_value.specs.declared.shader_kind.ShaderKind.{ShaderKind}
 use Rattle.oso_code.specs.declared.symbol.Symbol.{Symbol}
-use Rattle.oso_write.specs.Lines.{Line}
+use Rattle.osl_valuetext.specs.Words.{Line}
 use Rattle.oso_read.specs.declared.error.OsoKind.{OsoKind}
 use Rattle.oso_read.specs.declared.error.OsoKind.TheVariants as kinds
 use Rattle.oso_read.specs.declared.fault.LineFault.{LineFault}

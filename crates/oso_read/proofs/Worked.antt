@@ -12,11 +12,13 @@ use Rattle.oso_code.specs.Valid.{first_flaw}
 use Rattle.oso_write.specs.Lines.{lines_of}
 use Rattle.oso_read.specs.declared.error.OsoKind.TheVariants.{Line}
 use Rattle.oso_read.specs.Faults.{fault}
-use Rattle.oso_read.specs.Text.{words, told, told_from}
+use Rattle.osl_valuetext.specs.Splitting.{words}
+use Rattle.oso_read.specs.Text.{told, told_from}
 use Rattle.oso_read.specs.Hints.{is_hint, saying, said}
-use Rattle.oso_read.specs.Literals.{int_at, fx_at, decimal_at, string_at, text_at, numbers_at, strings_at, values_at}
-use Rattle.oso_read.specs.Types.{length_at, type_at, datum_of, meta_at}
-use Rattle.oso_read.specs.SymbolLine.{head_words, head_at, typed_words, value_at, start_at, metas_at, named_at, class_at, symbol_words, symbol_at}
+use Rattle.osl_valuetext.specs.Literals.{int_at, fx_at, decimal_at, string_at, text_at, numbers_at, strings_at, values_at, value_at}
+use Rattle.osl_valuetext.specs.Types.{length_at, type_at}
+use Rattle.oso_read.specs.Data.{datum_of, meta_at}
+use Rattle.oso_read.specs.SymbolLine.{head_words, head_at, typed_words, start_at, metas_at, named_at, class_at, symbol_words, symbol_at}
 use Rattle.oso_read.specs.OpLine.{op_words, op_at, code_at, is_end}
 use Rattle.oso_read.specs.Reading.{headed, named_from, opened, symbol_added, declared_from, code_read, op_named, op_of, op_read, filled_from, range_fault, ended, closed, reading}
 

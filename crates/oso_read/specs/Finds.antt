@@ -6,8 +6,8 @@ use Rattle.oso_read.specs.declared.error.OsoKind.{OsoKind}
 use Rattle.oso_read.specs.declared.error.OsoKind.TheVariants as kinds
 use Rattle.oso_read.specs.declared.fault.LineFault.{LineFault}
 use Rattle.oso_read.specs.declared.fault.LineFault.TheVariants as faults
-use Rattle.oso_read.specs.declared.unread.Unread.{Unread}
-use Rattle.oso_read.specs.declared.unread.Unread.TheVariants as unread
+use Rattle.osl_valuetext.specs.declared.unread.Unread.{Unread}
+use Rattle.osl_valuetext.specs.declared.unread.Unread.TheVariants as unread
 
 -- It is, seen by view, what the line gives, or the kind of its fault, unless memory ran out.
 abbrev pub Finds : {X A : Type 0} → (X → A) → Result X LineFault → Result A OsoKind → Type 0

@@ -3,10 +3,10 @@ use Rattle.std.specs.Prelude.{codes, ℕ, Bool, false, not, ◌&&◌, ◌==◌, 
 use Rattle.std.specs.List.{list_all, prefix_len}
 use Rattle.std.specs.Str.{bytes_eq}
 use Rattle.oso_code.specs.Names.{is_name, continues_name}
-use Rattle.oso_write.specs.Lines.{Line}
-use Rattle.oso_read.specs.declared.place.Place.{Place}
-use Rattle.oso_read.specs.declared.place.Place.TheVariants.{Braced}
-use Rattle.oso_read.specs.Text.{next, is_open}
+use Rattle.osl_valuetext.specs.Words.{Line}
+use Rattle.osl_valuetext.specs.declared.place.Place.{Place}
+use Rattle.osl_valuetext.specs.declared.place.Place.TheVariants.{Braced}
+use Rattle.osl_valuetext.specs.Splitting.{next, is_open}
 
 abbrev pub begins_hint : List ℕ → Bool
 begins_hint word = slice_index word 0 == 37

@@ -1,10 +1,10 @@
 -- The lines that a reader has before it.
 use Rattle.std.specs.Prelude.{ℕ, ◌+◌, List, [], ◌∷◌, Option, None, Some, length}
 use Rattle.std.specs.Str.Lines.{lines}
-use Rattle.oso_write.specs.Lines.{Line}
+use Rattle.osl_valuetext.specs.Words.{Line}
 use Rattle.oso_read.specs.declared.reader.Reader.{Reader}
 use Rattle.oso_read.specs.Text.{Numbered, told_from}
-use Rattle.oso_read.specs.Scan.{spoken}
+use Rattle.osl_valuetext.specs.Scan.{spoken}
 
 -- a line, if there is one, and those behind it
 abbrev pub with_line : Option ℕ → Line → List Numbered → List Numbered

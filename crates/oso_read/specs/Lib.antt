@@ -1,9 +1,6 @@
 pub mod Text
 pub mod Hints
-pub mod Literals
-pub mod Types
-pub mod Scan
-pub mod Unread
+pub mod Data
 pub mod SymbolNames
 pub mod SymbolLine
 pub mod OpLine

@@ -3,9 +3,10 @@ use Rattle.std.specs.Prelude.{codes, ℕ, Bool, false, ◌==◌, ◌&&◌, if◌
 use Rattle.std.specs.List.{prefix_len}
 use Rattle.std.specs.Str.{bytes_eq}
 use Rattle.oso_code.specs.Names.{is_name}
-use Rattle.oso_write.specs.Lines.{Line}
+use Rattle.osl_valuetext.specs.Words.{Line}
 use Rattle.oso_read.specs.Hints.{Saying}
-use Rattle.oso_read.specs.Literals.{◌>>=◌, each, only_word, decimal_at}
+use Rattle.osl_valuetext.specs.Literals.{◌>>=◌, each, decimal_at}
+use Rattle.oso_read.specs.Text.{only_word}
 
 -- an operation's name, the names of its arguments, and its jumps
 pub record OpWords : Type 0 where

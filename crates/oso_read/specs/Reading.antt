@@ -18,14 +18,15 @@ use Rattle.oso_code.specs.Ranges.{jump_faults, steps_of}
 use Rattle.oso_code.specs.Sections.{owner_fits, owner_follows, is_body}
 use Rattle.oso_code.specs.Symbols.{fits_behind}
 use Rattle.oso_code.specs.Valid.{most_ops, nests_within}
-use Rattle.oso_write.specs.Lines.{Line, header}
+use Rattle.osl_valuetext.specs.Words.{Line}
+use Rattle.oso_write.specs.Lines.{header}
 use Rattle.oso_read.specs.declared.body.Start.{Start}
 use Rattle.oso_read.specs.declared.error.OsoKind.{OsoKind}
 use Rattle.oso_read.specs.declared.error.OsoKind.TheVariants as kinds
 use Rattle.oso_read.specs.Faults.{Fault, fault, ◌>>=◌, at_line, holding}
 use Rattle.oso_read.specs.Text.{Numbered, told, line_count}
 use Rattle.oso_read.specs.Hints.{Saying, saying}
-use Rattle.oso_read.specs.Literals.{each}
+use Rattle.osl_valuetext.specs.Literals.{each}
 use Rattle.oso_read.specs.SymbolNames.{names_of, has_room}
 use Rattle.oso_read.specs.SymbolLine.{Head, head_at, symbol_at}
 use Rattle.oso_read.specs.OpLine.{OpWords, op_at, code_at, is_end, is_code_line, is_end_line}

@@ -7,7 +7,7 @@ use Rattle.oso_read.specs.declared.op_line.OpLine.{OpLine}
 use Rattle.oso_read.specs.Hints.{Saying, is_datum}
 use Rattle.oso_read.specs.SymbolLine.{Head, Typed}
 use Rattle.oso_read.specs.OpLine.{OpWords}
-use Rattle.oso_read.specs.Scan.{spoken}
+use Rattle.osl_valuetext.specs.Scan.{spoken}
 
 abbrev pub seen : Said → Saying
 seen said = record { words = spoken said.words.now; metadata = filter is_datum (spoken said.hints.now) }

@@ -7,9 +7,10 @@ use Rattle.oso_code.specs.declared.symbol.Meta.{Meta}
 use Rattle.oso_code.specs.declared.symbol.Symbol.{Symbol}
 use Rattle.oso_code.specs.Valid.{IsValid}
 use Rattle.oso_write.specs.Lines.{lines_of}
-use Rattle.oso_read.specs.Text.{words, means, told}
+use Rattle.osl_valuetext.specs.Splitting.{words}
+use Rattle.oso_read.specs.Text.{means, told}
 use Rattle.oso_read.specs.Hints.{said}
-use Rattle.oso_read.specs.Literals.{is_short}
+use Rattle.osl_valuetext.specs.Literals.{is_short}
 
 -- ---- strings, which hold bytes, those of values at most 512
 

@@ -14,11 +14,13 @@ use Rattle.oso_code.specs.declared.symbol.Symbol.{Symbol}
 use Rattle.oso_code.specs.Holding.{is_closure}
 use Rattle.oso_code.specs.Names.{is_name}
 use Rattle.oso_code.specs.Symbols.{is_parameter, has_value}
-use Rattle.oso_write.specs.Words.{kind_name, class_name}
-use Rattle.oso_write.specs.Lines.{Line}
+use Rattle.oso_write.specs.Names.{kind_name, class_name}
+use Rattle.osl_valuetext.specs.Words.{Line}
 use Rattle.oso_read.specs.Hints.{Saying}
-use Rattle.oso_read.specs.Literals.{◌>>=◌, each, only_word, text_at, values_at}
-use Rattle.oso_read.specs.Types.{type_at, meta_at}
+use Rattle.osl_valuetext.specs.Literals.{◌>>=◌, each, text_at, values_at}
+use Rattle.oso_read.specs.Text.{only_word}
+use Rattle.osl_valuetext.specs.Types.{type_at}
+use Rattle.oso_read.specs.Data.{meta_at}
 
 -- ---- the shader
 

@@ -1,8 +1,8 @@
 ghost use Rattle.std.specs.Prelude.{◌≡◌};
 
 use crate::error::{OsoError, OsoKind};
-use crate::unread::Unread;
 use osl_value::Memory;
+use osl_valuetext::Unread;
 use std::alloc::{AllocError, AllocFailed};
 
 /// What is wrong with a line, or want of memory.

@@ -3,13 +3,13 @@
 ghost use Rattle.std.specs.Prelude.{◌≡◌, ◌≤◌, ◌==◌, [], ◌∷◌, ◌++◌, length, drop, filter, take_while, option_map, OnOk, IfOk};
 ghost use Rattle.std.specs.List.{list_all, prefix_len};
 ghost use Rattle.oso_code.specs.Names.{continues_name};
-ghost use Rattle.oso_read.specs.declared.place.Place.TheVariants.{Braced};
+ghost use Rattle.osl_valuetext.specs.declared.place.Place.TheVariants.{Braced};
 ghost use Rattle.oso_read.specs.Hints.{begins_hint, hint_name, closes, is_braced, is_hint, is_datum, word_count, saying};
-ghost use Rattle.oso_read.specs.Scan.{spoken};
+ghost use Rattle.osl_valuetext.specs.Scan.{spoken};
 ghost use Rattle.oso_read.specs.Said.{seen};
 
-use crate::place::Place;
 use osl_value::Memory;
+use osl_valuetext::Place;
 use oso_code::name::{continues_name, is_name};
 use std::alloc::Global;
 

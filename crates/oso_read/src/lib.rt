@@ -7,26 +7,21 @@
 
 mod body;
 mod error;
-mod escape;
 mod fault;
 mod hints;
+mod jumps;
 pub mod laws;
 mod lines;
 mod name_table;
-mod number;
 mod op_line;
 mod owner;
 mod parts;
-mod place;
 mod reader;
 mod strings;
 mod symbol_line;
 mod table;
-mod types;
-mod unread;
 mod values;
 mod whole;
-mod words;
 
 pub use error::{OsoError, OsoKind};
 pub use whole::read;

@@ -2,12 +2,12 @@
 
 ghost use Rattle.std.specs.Prelude.{◌≡◌, ◌+◌, ◌<◌, ◌≤◌, ◌^◌, ◌==◌, ◌∷◌, [], length, take, drop, if◌then◌else◌, option_map, position, OnOk, IfOk, IfNone, IfSome, MatchOption};
 ghost use Rattle.std.specs.Str.Lines.{lines, strip_carriage_return};
-ghost use Rattle.oso_read.specs.Text.{means, words, told_from, Numbered};
-ghost use Rattle.oso_read.specs.Scan.{spoken};
+ghost use Rattle.oso_read.specs.Text.{means, told_from, Numbered};
+ghost use Rattle.osl_valuetext.specs.Scan.{spoken};
 ghost use Rattle.oso_read.specs.Spelt.{is_line_feed};
 
-use crate::words::{Parting, split};
 use osl_value::Memory;
+use osl_valuetext::split_words;
 
 /// The text that is left, and the number of its first line.
 #[derive(Clone, Copy, Debug)]
@@ -55,15 +55,6 @@ fn means(line: &[&[u8]]) -> bool
     }
 }
 
-/// The words of a line, put in place of others.
-#[tactic(auto, unfolding(crate::specs::Text::words))]
-fn split_line<'a>(line: &'a [u8], into: &mut Vec<&'a [u8]>) -> Result<(), Memory>
-    ensures { OnOk result (spoken into.new.items ≡ words line.now) }
-{
-    into.clear();
-    split(Parting::Blanks, line, into)
-}
-
 impl<'a> Lines<'a> {
     /// Goes to the next line that means something, and gives its number and its words, if there is
     /// one.
@@ -84,7 +75,7 @@ impl<'a> Lines<'a> {
                 rest,
                 number: number + 1,
             };
-            split_line(line, into)?;
+            split_words(line, into)?;
             if means(into.as_slice()) {
                 return Ok(Some(number));
             }

@@ -3,16 +3,16 @@
 ghost use Rattle.std.specs.Prelude.{codes, ◌≡◌, ◌≤◌, length, option_map};
 ghost use Rattle.std.specs.List.{prefix_len};
 ghost use Rattle.oso_code.specs.Names.{is_name};
-ghost use Rattle.oso_read.specs.Literals.{only_word};
+ghost use Rattle.oso_read.specs.Text.{only_word};
 ghost use Rattle.oso_read.specs.OpLine.{op_words, op_at, code_words, code_at, is_end, is_code_line, is_end_line};
 ghost use Rattle.oso_read.specs.Said.{seen, op_words_of};
-ghost use Rattle.oso_read.specs.Scan.{spoken};
-ghost use Rattle.oso_read.specs.Unread.{Tells};
+ghost use Rattle.osl_valuetext.specs.Scan.{spoken};
+ghost use Rattle.osl_valuetext.specs.Unread.{Tells};
 
 use crate::hints::{Said, lacks_metadata};
-use crate::number::decimals_at;
-use crate::unread::Unread;
+use crate::jumps::decimals_at;
 use oso_code::name::is_name;
+use osl_valuetext::Unread;
 use std::alloc::Global;
 
 /// An operation's name, the names of its arguments, and its jumps.

@@ -6,10 +6,10 @@ ghost use Rattle.osl_value.specs.OpText.{name_of};
 ghost use Rattle.std.specs.Option.{ok_or};
 ghost use Rattle.oso_read.specs.declared.error.OsoKind.TheVariants as kinds;
 ghost use Rattle.oso_read.specs.Finds.{Finds};
-ghost use Rattle.oso_read.specs.Literals.{each};
+ghost use Rattle.osl_valuetext.specs.Literals.{each};
 ghost use Rattle.oso_read.specs.Reading.{may_follow, owner_named, op_named, symbol_number, op_of};
 ghost use Rattle.oso_read.specs.Said.{op_words_of};
-ghost use Rattle.oso_read.specs.Scan.{spoken};
+ghost use Rattle.osl_valuetext.specs.Scan.{spoken};
 
 use crate::body::Start;
 use crate::error::OsoKind;

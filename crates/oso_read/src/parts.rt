@@ -13,7 +13,7 @@ ghost use Rattle.oso_read.specs.Finds.{Finds};
 ghost use Rattle.oso_read.specs.Left.{left, line_after};
 ghost use Rattle.oso_read.specs.Reading.{says_header, heard, headed, named_from, opened, symbol_added, declared_from, empty_body, body_line, filled_from, says_end, is_ended, ended};
 ghost use Rattle.oso_read.specs.Said.{seen, head_of};
-ghost use Rattle.oso_read.specs.Scan.{spoken};
+ghost use Rattle.osl_valuetext.specs.Scan.{spoken};
 ghost use Rattle.oso_read.specs.SymbolLine.{head_at};
 ghost use Rattle.oso_read.specs.Text.{line_count};
 

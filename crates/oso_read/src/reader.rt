@@ -32,7 +32,7 @@ impl<'a> Reader<'a> {
     ghost use Rattle.oso_read.specs.OpLine.{is_code_line, is_end_line};
     ghost use Rattle.oso_read.specs.Reading.{begins_body};
     ghost use Rattle.oso_read.specs.Said.{seen};
-    ghost use Rattle.oso_read.specs.Scan.{spoken};
+    ghost use Rattle.osl_valuetext.specs.Scan.{spoken};
     ghost use Rattle.oso_read.specs.Text.{told, told_from, line_count};
 
     /// A text at its first line.

@@ -4,19 +4,18 @@ ghost use Rattle.std.specs.Prelude.{◌≡◌, ◌==◌, true, length, option_ma
 ghost use Rattle.oso_code.specs.Holding.{is_type};
 ghost use Rattle.oso_code.specs.Symbols.{has_value};
 ghost use Rattle.oso_read.specs.Hints.{is_datum};
-ghost use Rattle.oso_read.specs.Literals.{each};
-ghost use Rattle.oso_read.specs.Types.{meta_at};
+ghost use Rattle.osl_valuetext.specs.Literals.{each};
+ghost use Rattle.oso_read.specs.Data.{meta_at};
 ghost use Rattle.oso_read.specs.SymbolLine.{kind_named, class_named, head_words, head_at, closure_words, typed_words, start_at, metas_at, named_at, symbol_words, symbol_at};
 ghost use Rattle.oso_read.specs.Said.{seen, head_of, typed_of};
-ghost use Rattle.oso_read.specs.Scan.{spoken};
-ghost use Rattle.oso_read.specs.Unread.{Tells};
+ghost use Rattle.osl_valuetext.specs.Scan.{spoken};
+ghost use Rattle.osl_valuetext.specs.Unread.{Tells};
 
 use crate::hints::{Said, data_of, lacks_metadata};
 use crate::op_line::only_word;
-use crate::types::type_at;
-use crate::unread::Unread;
-use crate::values::{meta_at, name_at, value_at};
+use crate::values::{meta_at, name_at};
 use osl_value::{Base, ShaderKind, Text, Ty, Value};
+use osl_valuetext::{Spelling, Unread, read_type, read_value};
 use oso_code::holding::is_closure;
 use oso_code::{Class, ListOf, Meta, Symbol};
 use oso_write::{class_name, kind_name};
@@ -144,7 +143,7 @@ fn typed_words<'w, 'a>(words: &'w [&'a [u8]]) -> Option<TypedWords<'w, 'a>>
     if *first == b"closure".as_slice() {
         return closure_words(rest);
     }
-    match type_at(first) {
+    match read_type(first) {
         Some(ty) => Some(TypedWords { ty, rest }),
         None => None,
     }
@@ -169,7 +168,7 @@ fn start_at(alloc: Global, class: Class, ty: Ty, words: &[&[u8]]) -> Result<Opti
     ensures { Tells (λ value. value) result (start_at class ty (spoken words.now)) }
 {
     if has_value(class, ty) {
-        let value = value_at(alloc, ty, words)?;
+        let value = read_value(alloc, Spelling::Canonical, ty, words)?;
         return Ok(Some(value));
     }
     if words.is_empty() {

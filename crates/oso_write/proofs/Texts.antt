@@ -4,20 +4,9 @@ use Rattle.std.specs.List.{flat_map}
 use Rattle.std.proofs.lemmas.List.{take_more, map-append, flat_map_more}
 use Rattle.std.proofs.lemmas.List.Concat.{flat_map-append}
 use Rattle.oso_code.specs.declared.raw.Raw.{Raw}
-use Rattle.oso_write.specs.Words.{behind}
+use Rattle.osl_valuetext.specs.Words.{behind}
 use Rattle.oso_write.specs.Lines.{header, shader_line, symbol_line, section_lines}
 use Rattle.oso_write.specs.Canon.{line_text, canon}
-
--- one more word behind its mark
-pub words_more : {X : Type 0} (mark : ℕ) (f : X → List ℕ) (xs : List X) (i : ℕ) (d : X) (out before marked after : List ℕ) → i < length xs
-    → before ≡ out ++ behind mark (map f (take i xs)) → marked ≡ before ++ mark ∷ [] → after ≡ marked ++ f (get_or xs i d)
-    → after ≡ out ++ behind mark (map f (take (i + 1) xs))
-words_more mark f xs i d out before marked after below was push told =
-    let word = f (get_or xs i d) in
-    let grown : map f (take (i + 1) xs) ≡ map f (take i xs) ++ word ∷ [] = ap (map f) (take_more xs i d below) ∙ map-append f (take i xs) (get_or xs i d ∷ []) in
-    let joined : (before ++ mark ∷ []) ++ word ≡ before ++ mark ∷ word = append_assoc before (mark ∷ []) word in
-    told ∙ ap (λ (t : List ℕ). t ++ word) push ∙ joined ∙ ap (λ (t : List ℕ). t ++ mark ∷ word) was
-    ∙ flat_map_more (λ w. mark ∷ w) out (map f (take i xs)) word ∙ ap (λ (ws : List (List ℕ)). out ++ behind mark ws) (sym grown)
 
 canon_parts : (raw : Raw) → canon raw ≡ line_text header ++ (line_text (shader_line raw) ++ (flat_map line_text (map symbol_line raw.symbols) ++ (flat_map line_text (flat_map (section_lines raw) raw.sections) ++ line_text (codes "end" ∷ []))))
 unfolding canon

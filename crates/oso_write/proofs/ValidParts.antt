@@ -49,7 +49,7 @@ number_fits Matrix n h = float_fits n h
 number_fits Str n h = float_fits n h
 number_fits Closure n h = float_fits n h
 
-numbers_fit : (base : Base) (nums : List ℤ) → list_all (fits_base base) nums ≡ true → AllByRecursion (IsNumberOf base) nums
+pub numbers_fit : (base : Base) (nums : List ℤ) → list_all (fits_base base) nums ≡ true → AllByRecursion (IsNumberOf base) nums
 numbers_fit base [] h = tt
 numbers_fit base (n ∷ nums) h =
     (number_fits base n (left (fits_base base n) (list_all (fits_base base) nums) h), numbers_fit base nums (right (fits_base base n) (list_all (fits_base base) nums) h))

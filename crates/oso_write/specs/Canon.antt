@@ -2,8 +2,8 @@
 use Rattle.std.specs.Prelude.{ℕ, List, [], ◌∷◌, ◌++◌}
 use Rattle.std.specs.List.{flat_map}
 use Rattle.oso_code.specs.declared.raw.Raw.{Raw}
-use Rattle.oso_write.specs.Words.{behind}
-use Rattle.oso_write.specs.Lines.{Line, lines_of}
+use Rattle.osl_valuetext.specs.Words.{behind, Line}
+use Rattle.oso_write.specs.Lines.{lines_of}
 
 abbrev pub line_text : Line → List ℕ
 line_text [] = 10 ∷ []

@@ -10,7 +10,8 @@ use Rattle.oso_code.specs.declared.raw.Raw.{Raw}
 use Rattle.oso_code.specs.declared.symbol.Meta.{Meta}
 use Rattle.oso_code.specs.declared.symbol.Symbol.{Symbol}
 use Rattle.oso_code.specs.Names.{main_name}
-use Rattle.oso_write.specs.Words.{kind_name, class_name, type_text, type_words, value_words, behind}
+use Rattle.oso_write.specs.Names.{kind_name, class_name, type_words}
+use Rattle.osl_valuetext.specs.Words.{type_text, value_words, behind}
 
 abbrev pub Line : Type 0
 Line = List (List ℕ)

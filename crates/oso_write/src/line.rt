@@ -3,14 +3,14 @@
 ghost use Rattle.std.specs.Prelude.{codes, ◌≡◌, ◌∷◌, ◌++◌, [], map, OnOk};
 ghost use Rattle.std.specs.Fmt.{decimal};
 ghost use Rattle.std.specs.List.{All, flat_map};
-ghost use Rattle.osl_value.specs.Plain.{IsNumberOf};
-ghost use Rattle.oso_write.specs.Words.{number_text, string_text, value_words, behind};
+ghost use Rattle.osl_valuetext.specs.Words.{string_text, behind};
 ghost use Rattle.oso_write.specs.Lines.{meta_text, header, shader_line, symbol_line, start_words, name_at, op_line, section_name};
 ghost use Rattle.oso_write.specs.Canon.{line_text};
 ghost use Rattle.oso_write.specs.Fits.{IsDatum, HasData};
 
-use crate::word::{class_name, kind_name, write_decimal, write_number, write_string, write_type};
-use osl_value::{Base, Memory, Text, Value};
+use crate::names::{class_name, kind_name};
+use osl_value::{Memory, Value};
+use osl_valuetext::{write_decimal, write_numbers, write_string, write_type, write_value};
 use oso_code::{ListOf, Meta, Op, Raw, Symbol};
 
 /// Appends a word behind a space.
@@ -19,29 +19,6 @@ fn write_spaced(word: &[u8], out: &mut Vec<u8>) -> Result<(), Memory>
 {
     out.push(b' ')?;
     out.extend_from_slice(word)?;
-    Ok(())
-}
-
-/// Appends numbers of a type, each behind a mark.
-fn write_numbers(mark: u8, base: Base, nums: &[i64], out: &mut Vec<u8>) -> Result<(), Memory>
-    requires { All (IsNumberOf base) nums.now }
-    ensures { OnOk result (out.new.items ≡ out.old.items ++ behind mark (map (number_text base) nums.now)) }
-{
-    for n in nums {
-        out.push(mark)?;
-        write_number(base, *n, out)?;
-    }
-    Ok(())
-}
-
-/// Appends the strings of a value, each behind a space.
-fn write_texts(texts: &[Text], out: &mut Vec<u8>) -> Result<(), Memory>
-    ensures { OnOk result (out.new.items ≡ out.old.items ++ behind 32 (map string_text texts.now)) }
-{
-    for text in texts {
-        out.push(b' ')?;
-        write_string(text.bytes(), out)?;
-    }
     Ok(())
 }
 
@@ -54,16 +31,6 @@ fn write_data_texts(texts: &[ListOf<u8>], out: &mut Vec<u8>) -> Result<(), Memor
         write_string(text.as_slice(), out)?;
     }
     Ok(())
-}
-
-/// Appends the numbers and strings of a value, each behind a space.
-fn write_value(value: &Value, out: &mut Vec<u8>) -> Result<(), Memory>
-    ensures { OnOk result (out.new.items ≡ out.old.items
-        ++ behind 32 (value_words value.now.ty.base value.now.nums value.now.texts)) }
-{
-    let ty = value.ty();
-    write_numbers(b' ', ty.base, value.nums(), out)?;
-    write_texts(value.texts(), out)
 }
 
 /// Appends a datum of metadata.

@@ -1,7 +1,7 @@
 use Rattle.std.proofs.Common.{◌≡◌, drop}
 use Rattle.std.specs.List.{list_all}
 use Rattle.oso_read.specs.Hints.{is_hint}
-use Rattle.oso_read.specs.Scan.{spoken}
+use Rattle.osl_valuetext.specs.Scan.{spoken}
 use Rattle.oso_read.proofs.hints.are_hints.Given as goal
 
 abbrev pub invariant-loop-word : goal.invariant-loop-word

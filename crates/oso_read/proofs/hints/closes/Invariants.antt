@@ -1,5 +1,5 @@
 use Rattle.std.proofs.Common.{◌≡◌, drop}
-use Rattle.oso_read.specs.declared.place.Place.TheVariants.{Braced}
+use Rattle.osl_valuetext.specs.declared.place.Place.TheVariants.{Braced}
 use Rattle.oso_read.specs.Hints.{closes}
 use Rattle.oso_read.proofs.hints.closes.Given as goal
 

@@ -1,7 +1,7 @@
 use denote.Ref.{Bor}
 use Rattle.std.proofs.Common.{List, ℕ, [], arith}
 use Rattle.oso_read.specs.Hints.{is_datum}
-use Rattle.oso_read.proofs.Pieces.{filter_more}
+use Rattle.osl_valuetext.proofs.Pieces.{filter_more}
 use Rattle.oso_read.proofs.hints.data_of.Goals as goal
 
 pub loop-hint-preserved : goal.loop-hint-preserved

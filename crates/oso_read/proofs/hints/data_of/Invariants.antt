@@ -1,6 +1,6 @@
 use Rattle.std.proofs.Common.{◌≡◌, ◌++◌, drop, filter}
 use Rattle.oso_read.specs.Hints.{is_datum}
-use Rattle.oso_read.specs.Scan.{spoken}
+use Rattle.osl_valuetext.specs.Scan.{spoken}
 use Rattle.oso_read.proofs.hints.data_of.Given as goal
 
 -- the data so far, and those of the hints left, are all

@@ -1,6 +1,6 @@
 use Rattle.std.proofs.Common.{◌≡◌, ◌==◌, drop, filter, length}
 use Rattle.oso_read.specs.Hints.{is_datum}
-use Rattle.oso_read.specs.Scan.{spoken}
+use Rattle.osl_valuetext.specs.Scan.{spoken}
 use Rattle.oso_read.proofs.hints.lacks_metadata.Given as goal
 
 abbrev pub invariant-loop-hint : goal.invariant-loop-hint

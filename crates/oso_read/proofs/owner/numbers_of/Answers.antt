@@ -1,9 +1,9 @@
 use denote.Ref.{Bor}
 use Rattle.std.proofs.Common.{◌≡◌, ℕ, suc, ◌+◌, ◌<◌, List, [], ◌∷◌, ◌++◌, length, get_or, drop, Option, Some, None, refl, sym, ap, ◌∙◌, append_assoc, drop-cons, add-one}
-use Rattle.oso_read.specs.Literals.{◌>>=◌, each}
+use Rattle.osl_valuetext.specs.Literals.{◌>>=◌, each}
 use Rattle.oso_read.specs.Reading.{symbol_number}
-use Rattle.oso_read.specs.Scan.{spoken}
-use Rattle.oso_read.proofs.Each.{behind_front}
+use Rattle.osl_valuetext.specs.Scan.{spoken}
+use Rattle.osl_valuetext.proofs.Each.{behind_front}
 use Rattle.oso_read.proofs.owner.numbers_of.Goals as goal
 
 module _ (f : List ℕ → Option ℕ) (names : List (Bor (List ℕ))) (i : ℕ) (d : Bor (List ℕ)) (lt : i < length names) where

@@ -1,8 +1,8 @@
 use Rattle.std.proofs.Common.{◌≡◌, drop}
-use Rattle.oso_read.specs.Literals.{each}
+use Rattle.osl_valuetext.specs.Literals.{each}
 use Rattle.oso_read.specs.Reading.{symbol_number}
-use Rattle.oso_read.specs.Scan.{spoken}
-use Rattle.oso_read.proofs.Each.{behind_front}
+use Rattle.osl_valuetext.specs.Scan.{spoken}
+use Rattle.osl_valuetext.proofs.Each.{behind_front}
 use Rattle.oso_read.proofs.owner.numbers_of.Given as goal
 
 -- the numbers so far, and those of the names left, are all

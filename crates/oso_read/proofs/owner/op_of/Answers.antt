@@ -5,7 +5,7 @@ use Rattle.osl_value.specs.declared.op_name.OpName.{OpName}
 use Rattle.oso_code.specs.declared.op.Op.{Op}
 use Rattle.oso_code.specs.declared.symbol.Symbol.{Symbol}
 use Rattle.oso_read.specs.declared.error.OsoKind.TheVariants as kinds
-use Rattle.oso_read.specs.Literals.{each}
+use Rattle.osl_valuetext.specs.Literals.{each}
 use Rattle.oso_read.specs.OpLine.{OpWords}
 use Rattle.oso_read.specs.Reading.{op_named, symbol_number, op_of}
 use Rattle.oso_read.specs.Said.{op_words_of}

@@ -3,7 +3,7 @@ use Rattle.std.proofs.Common.{◌∙◌, List, ℕ, sym, ap}
 use Rattle.std.specs.Str.{bytes_eq}
 use Rattle.std.specs.Cmp.Lexicographic.{pointwise}
 use Rattle.std.specs.Cmp.Derive.Mapped.{pointwise-map}
-use Rattle.oso_read.specs.Scan.{spoken}
+use Rattle.osl_valuetext.specs.Scan.{spoken}
 use Rattle.oso_read.proofs.parts.are_header.Goals as goal
 
 pub returns : goal.returns

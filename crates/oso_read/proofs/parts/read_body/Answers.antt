@@ -4,7 +4,7 @@ use Rattle.oso_read.specs.BodyLines.{body_of}
 use Rattle.oso_read.specs.Faults.{Fault, Fails}
 use Rattle.oso_read.specs.Left.{left}
 use Rattle.oso_read.specs.Reading.{Filled, filled_from}
-use Rattle.oso_read.specs.Scan.{spoken}
+use Rattle.osl_valuetext.specs.Scan.{spoken}
 use Rattle.oso_read.specs.Text.{told_from}
 use Rattle.oso_read.proofs.Walks.{filled_ends, filled_last, filled_more, filled_fails}
 use Rattle.oso_read.proofs.parts.read_body.Goals as goal

@@ -4,7 +4,7 @@ use Rattle.oso_read.specs.declared.table.Table.{Table}
 use Rattle.oso_read.specs.Faults.{Fault, Fails}
 use Rattle.oso_read.specs.Left.{left}
 use Rattle.oso_read.specs.Reading.{Declared, declared_from}
-use Rattle.oso_read.specs.Scan.{spoken}
+use Rattle.osl_valuetext.specs.Scan.{spoken}
 use Rattle.oso_read.specs.Text.{told_from}
 use Rattle.oso_read.proofs.Walks.{declared_ends, declared_last, declared_more, declared_fails}
 use Rattle.oso_read.proofs.parts.read_symbols.Goals as goal

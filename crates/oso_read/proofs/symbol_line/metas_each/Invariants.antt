@@ -1,8 +1,8 @@
 use Rattle.std.proofs.Common.{◌≡◌, drop}
-use Rattle.oso_read.specs.Literals.{each}
-use Rattle.oso_read.specs.Types.{meta_at}
-use Rattle.oso_read.specs.Scan.{spoken}
-use Rattle.oso_read.proofs.Each.{behind_front}
+use Rattle.osl_valuetext.specs.Literals.{each}
+use Rattle.oso_read.specs.Data.{meta_at}
+use Rattle.osl_valuetext.specs.Scan.{spoken}
+use Rattle.osl_valuetext.proofs.Each.{behind_front}
 use Rattle.oso_read.proofs.symbol_line.metas_each.Given as goal
 
 -- the metadata so far, and those of the hints left, are all

@@ -1,10 +1,9 @@
 use denote.Ref.{Bor}
 use Rattle.std.proofs.Common.{List, ℕ, true, filter, ◌++◌, ap, ◌∙◌}
-use Rattle.oso_read.specs.declared.place.Place.TheVariants.{Open}
-use Rattle.oso_read.specs.Text.{pieces}
-use Rattle.oso_read.specs.Types.{is_comma}
-use Rattle.oso_read.specs.Scan.{spoken}
-use Rattle.oso_read.proofs.Plains.{all_kept}
+use Rattle.osl_valuetext.specs.declared.place.Place.TheVariants.{Open}
+use Rattle.osl_valuetext.specs.Splitting.{pieces, is_comma}
+use Rattle.osl_valuetext.specs.Scan.{spoken}
+use Rattle.osl_valuetext.proofs.Plains.{all_kept}
 use Rattle.oso_read.proofs.values.fields_of.Goals as goal
 
 pub returns : goal.returns

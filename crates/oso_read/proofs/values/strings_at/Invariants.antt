@@ -1,7 +1,7 @@
 use Rattle.std.proofs.Common.{◌≡◌, drop}
-use Rattle.oso_read.specs.Literals.{each, string_at}
-use Rattle.oso_read.specs.Scan.{spoken}
-use Rattle.oso_read.proofs.Each.{behind_front}
+use Rattle.osl_valuetext.specs.Literals.{each, string_at}
+use Rattle.osl_valuetext.specs.Scan.{spoken}
+use Rattle.osl_valuetext.proofs.Each.{behind_front}
 use Rattle.oso_read.proofs.values.strings_at.Given as goal
 
 -- the strings so far, and those of the words left, are all

@@ -1,5 +1,5 @@
 use Rattle.std.proofs.Common.{◌≡◌, ◌++◌, map, take}
-use Rattle.oso_write.specs.Words.{behind, string_text}
+use Rattle.osl_valuetext.specs.Words.{behind, string_text}
 use Rattle.oso_write.proofs.line.write_data_texts.Given as goal
 
 abbrev pub invariant-loop-text : goal.invariant-loop-text

@@ -1,6 +1,6 @@
 use Rattle.std.proofs.Common.{◌≡◌, ◌++◌, map, take}
 use Rattle.std.specs.Fmt.{decimal}
-use Rattle.oso_write.specs.Words.{behind}
+use Rattle.osl_valuetext.specs.Words.{behind}
 use Rattle.oso_write.proofs.line.write_jumps.Given as goal
 
 abbrev pub invariant-loop-jump : goal.invariant-loop-jump

@@ -1,5 +1,5 @@
 use Rattle.std.proofs.Common.{◌≡◌, ◌++◌, map, take}
-use Rattle.oso_write.specs.Words.{behind}
+use Rattle.osl_valuetext.specs.Words.{behind}
 use Rattle.oso_write.specs.Lines.{meta_text}
 use Rattle.oso_write.proofs.line.write_metas.Given as goal
 

@@ -1,0 +1,13 @@
+pub mod Alls
+pub mod Canonicals
+pub mod Each
+pub mod Escapes
+pub mod Inside
+pub mod Pieces
+pub mod Plains
+pub mod Rounds
+pub mod Runs
+pub mod Spellings
+pub mod Texts
+pub mod TypeTexts
+pub mod ValueWords

@@ -1,0 +1,6 @@
+pub mod Words
+pub mod Splitting
+pub mod Scan
+pub mod Literals
+pub mod Types
+pub mod Unread

@@ -1,0 +1,1 @@
+//! What ties writing and reading together. The functions do nothing: their contracts are the laws.

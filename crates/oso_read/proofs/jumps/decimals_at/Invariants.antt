@@ -1,0 +1,9 @@
+use Rattle.std.proofs.Common.{◌≡◌, drop}
+use Rattle.osl_valuetext.specs.Literals.{each, decimal_at}
+use Rattle.osl_valuetext.specs.Scan.{spoken}
+use Rattle.osl_valuetext.proofs.Each.{behind_front}
+use Rattle.oso_read.proofs.jumps.decimals_at.Given as goal
+
+-- the numbers so far, and those of the words left, are all
+abbrev pub invariant-loop-word : goal.invariant-loop-word
+invariant-loop-word l = behind_front l.numbers.items (each decimal_at (spoken (drop l.word-index l.words))) ≡ each decimal_at (spoken l.words)

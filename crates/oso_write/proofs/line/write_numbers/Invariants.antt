@@ -1,6 +1,0 @@
-use Rattle.std.proofs.Common.{◌≡◌, ◌++◌, map, take}
-use Rattle.oso_write.specs.Words.{behind, number_text}
-use Rattle.oso_write.proofs.line.write_numbers.Given as goal
-
-abbrev pub invariant-loop-n : goal.invariant-loop-n
-invariant-loop-n l = l.out.items ≡ l.fn.out.items ++ behind l.mark (map (number_text l.base) (take l.n-index l.nums))
