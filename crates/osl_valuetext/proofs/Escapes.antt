@@ -4,15 +4,13 @@ use Rattle.std.specs.Prelude.{nat_le, option_map, slice_index}
 use Rattle.std.specs.List.{flat_map, AllByRecursion}
 use Rattle.std.proofs.lemmas.Bool.{and_parts, and_from, or_cases, or_parts, or_from, ne_eqb, eqb-true, eq-eqb, leb-true, le-leb, le-ltb, ltb-true, ltb-false, lt-ltb, or_left, or_right, cond-true, cond-false, cond_both, not-true}
 use Rattle.std.proofs.lemmas.List.{get_or_at, take_at, length-append}
+use Rattle.osl_valuetext.specs.Spells.{IsByte}
 use Rattle.osl_valuetext.specs.Words.{octal, escape, string_text}
 use Rattle.osl_valuetext.specs.declared.escape.Pending.{Pending}
 use Rattle.osl_valuetext.specs.declared.escape.Pending.TheVariants.{Nothing, Backslash, OneDigit, TwoDigits}
 use Rattle.osl_valuetext.specs.declared.escape.Step.TheVariants.{Waits, Gives}
 use Rattle.osl_valuetext.specs.Literals.{is_plain, escaped_byte, is_octal, octal_value, needs_octal, octal_byte, escaped_step, with_byte, goes_on, inside_at, is_quoted, string_at}
 use Rattle.osl_valuetext.proofs.Rounds.{round}
-
-abbrev pub IsByte : ℕ → Type 0
-IsByte c = c < 256
 
 abbrev pub AreBytes : List ℕ → Type 0
 AreBytes bytes = AllByRecursion IsByte bytes

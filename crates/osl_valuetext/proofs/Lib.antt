@@ -2,6 +2,7 @@ pub mod Alls
 pub mod Canonicals
 pub mod Each
 pub mod Escapes
+pub mod Exact
 pub mod Inside
 pub mod Pieces
 pub mod Plains

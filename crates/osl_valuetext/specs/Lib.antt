@@ -3,4 +3,5 @@ pub mod Splitting
 pub mod Scan
 pub mod Literals
 pub mod Types
+pub mod Spells
 pub mod Unread

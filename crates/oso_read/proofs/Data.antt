@@ -11,6 +11,7 @@ use Rattle.oso_code.specs.declared.symbol.Meta.{Meta}
 use Rattle.oso_code.specs.Holding.{is_type, makes_up}
 use Rattle.oso_code.specs.Names.{is_name}
 use Rattle.oso_code.specs.Symbols.{datum_fits}
+use Rattle.osl_valuetext.specs.declared.number.Spelling.TheVariants.{Canonical}
 use Rattle.osl_valuetext.specs.Words.{Line, behind, type_text, value_words}
 use Rattle.oso_write.specs.Lines.{meta_text}
 use Rattle.osl_valuetext.specs.declared.place.Place.{Place}
@@ -18,14 +19,13 @@ use Rattle.osl_valuetext.specs.declared.place.Place.TheVariants.{Open, Braced}
 use Rattle.osl_valuetext.specs.Splitting.{next, is_open, is_blank, pieces, is_comma}
 use Rattle.oso_read.specs.Hints.{closes, is_hint, is_datum}
 use Rattle.osl_valuetext.specs.Literals.{◌>>=◌, Values, string_at, values_at}
-use Rattle.osl_valuetext.specs.Types.{type_at}
-use Rattle.oso_read.specs.Data.{datum_of, is_meta, in_braces, meta_at}
+use Rattle.oso_read.specs.Data.{meta_type_at, datum_of, is_meta, in_braces, meta_at}
 use Rattle.osl_valuetext.proofs.Runs.{run, run_both, Holds, pieces_joined, rejoined, pieces-rejoined}
 use Rattle.osl_valuetext.proofs.Rounds.{between}
 use Rattle.oso_read.proofs.Dull.{is_printed, within, dull_name}
 use Rattle.osl_valuetext.proofs.Escapes.{AreBytes, string_written, string_read}
 use Rattle.osl_valuetext.proofs.Plains.{bound}
-use Rattle.osl_valuetext.proofs.TypeTexts.{type_written, type_read}
+use Rattle.oso_read.proofs.MetaTypes.{meta_type_written, meta_type_read}
 use Rattle.osl_valuetext.proofs.ValueWords.{MakesUp, values_written, values_read}
 use Rattle.oso_read.proofs.MadeUp.{makes_up_facts}
 use Rattle.oso_read.proofs.Fields.{IsField, IsWord, within_both, printed_both, dull_field, type_field, value_fields}
@@ -135,15 +135,15 @@ abbrev made : Ty → List ℕ → Values → Meta
 made ty name v = record { ty = ty; name = name; nums = v.nums; texts = v.texts }
 
 abbrev datum_named : List ℕ → Line → Ty → Option Meta
-datum_named name values ty = cond (is_name name) (option_map (made ty name) (values_at string_at ty values)) None
+datum_named name values ty = cond (is_name name) (option_map (made ty name) (values_at Canonical string_at ty values)) None
 
 datum_written : (m : Meta) → IsData m → datum_of (type_text m.ty ∷ fields m) ≡ Some m
 unfolding datum_of
 datum_written m is =
     let parts = parts_of m is.fits in
-    ap (λ (o : Option Ty). o >>= datum_named m.name (value_words m.ty.base m.nums m.texts)) (type_written m.ty parts.type)
+    ap (λ (o : Option Ty). o >>= datum_named m.name (value_words m.ty.base m.nums m.texts)) (meta_type_written m.ty parts.type)
     ∙ cond-true _ _ _ parts.name
-    ∙ ap (option_map (made m.ty m.name)) (values_written string_at AreBytes string_written m.ty.base m.ty.len m.nums m.texts parts.makes is.bytes)
+    ∙ ap (option_map (made m.ty m.name)) (values_written Canonical string_at AreBytes string_written m.ty.base m.ty.len m.nums m.texts parts.makes is.bytes)
 
 pub meta_written : (m : Meta) → IsData m → meta_at (meta_text m) ≡ Some m
 meta_written m is =
@@ -168,22 +168,22 @@ datum_read : (words : Line) (m : Meta) → datum_of words ≡ Some m → WereFie
 unfolding datum_of
 datum_read [] m e = absurd cc
 datum_read (ty ∷ []) m e = absurd cc
-datum_read (ty ∷ name ∷ values) m e = let a = bound (type_at ty) (datum_named name values) m e in go a.0 a.1 (is_name name) a.2
+datum_read (ty ∷ name ∷ values) m e = let a = bound (meta_type_at ty) (datum_named name values) m e in go a.0 a.1 (is_name name) a.2
   where
-    from : (t : Ty) → type_at ty ≡ Some t → (o : Option Values) → values_at string_at t values ≡ o → option_map (made t name) o ≡ Some m → WereFields (ty ∷ name ∷ values) m
+    from : (t : Ty) → meta_type_at ty ≡ Some t → (o : Option Values) → values_at Canonical string_at t values ≡ o → option_map (made t name) o ≡ Some m → WereFields (ty ∷ name ∷ values) m
     from t known (Some v) read h =
         let is = values_read AreBytes string_at string_read t values v read in
         let same : made t name v ≡ m = cc in
         let whole : WereFields (ty ∷ name ∷ values) (made t name v) =
         record {
-          text = ap (λ (w : List ℕ). w ∷ name ∷ values) (type_read ty t known).0 ∙ ap (λ (ws : Line). type_text t ∷ name ∷ ws) is.words_are;
+          text = ap (λ (w : List ℕ). w ∷ name ∷ values) (meta_type_read ty t known).0 ∙ ap (λ (ws : Line). type_text t ∷ name ∷ ws) is.words_are;
           bytes = is.all;
         } in
         subst (λ (n : Meta). WereFields (ty ∷ name ∷ values) n) same whole
     from t known None read h = absurd cc
 
-    go : (t : Ty) → type_at ty ≡ Some t → (b : Bool) → cond b (option_map (made t name) (values_at string_at t values)) None ≡ Some m → WereFields (ty ∷ name ∷ values) m
-    go t known true h = from t known (values_at string_at t values) refl h
+    go : (t : Ty) → meta_type_at ty ≡ Some t → (b : Bool) → cond b (option_map (made t name) (values_at Canonical string_at t values)) None ≡ Some m → WereFields (ty ∷ name ∷ values) m
+    go t known true h = from t known (values_at Canonical string_at t values) refl h
     go t known false h = absurd cc
 
 only_comma : (c : ℕ) → is_comma c ≡ true → c ≡ 44

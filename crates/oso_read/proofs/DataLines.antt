@@ -21,29 +21,32 @@ use Rattle.oso_code.specs.declared.symbol.Symbol.{Symbol}
 use Rattle.oso_code.specs.Holding.{is_closure, is_type, makes_up}
 use Rattle.oso_code.specs.Names.{is_name}
 use Rattle.oso_code.specs.Symbols.{is_empty, is_parameter, datum_fits, parameter_fits, global_fits, has_value, is_value_of, metadata_fits, symbol_fits}
+use Rattle.osl_valuetext.specs.declared.number.Spelling.TheVariants.{Canonical}
 use Rattle.osl_valuetext.specs.Words.{Line, type_text, value_words}
 use Rattle.oso_write.specs.Lines.{meta_text, start_words, symbol_line}
 use Rattle.oso_write.specs.Names.{kind_name, class_name, type_words}
 use Rattle.oso_read.specs.Hints.{begins_hint, Saying, word_count, saying, said}
-use Rattle.osl_valuetext.specs.Literals.{◌>>=◌, each, text_at, is_short, Values, values_at, value_at}
+use Rattle.osl_valuetext.specs.Literals.{◌>>=◌, each, has_values, value_of, text_at, is_short, Values, values_at, value_at}
 use Rattle.oso_read.specs.Text.{only_word}
 use Rattle.osl_valuetext.specs.Types.{type_at}
 use Rattle.oso_read.specs.Data.{meta_at}
 use Rattle.oso_read.specs.SymbolLine.{all_kinds, kind_named, Head, head_words, head_at, all_classes, class_named, Typed, closure_words, typed_words, start_at, metas_at, named_at, class_at, symbol_words, symbol_at}
 use Rattle.oso_read.specs.OpLine.{begins_with, is_end_line}
 use Rattle.oso_read.specs.Reading.{begins_body}
-use Rattle.oso_read.specs.Spelt.{are_bytes, is_text, datum_spells, start_spells, symbol_spells}
+use Rattle.osl_valuetext.specs.Spells.{IsByte, are_bytes, is_text}
+use Rattle.oso_read.specs.Spelt.{datum_spells, start_spells, symbol_spells}
 use Rattle.osl_valuetext.proofs.Alls.{all_map, all_both, all_pass, pass_all}
 use Rattle.osl_valuetext.proofs.Plains.{bound, each_all}
 use Rattle.osl_valuetext.proofs.Canonicals.{each_written, each_read}
-use Rattle.osl_valuetext.proofs.Escapes.{IsByte, AreBytes}
+use Rattle.osl_valuetext.proofs.Escapes.{AreBytes}
+use Rattle.osl_valuetext.proofs.Exact.{bytes_are, text_is}
 use Rattle.osl_valuetext.proofs.TypeTexts.{find_passes, typed, type_written, type_read}
 use Rattle.osl_valuetext.proofs.ValueWords.{MakesUp, IsText, text_written, text_read, values_written, values_read}
 use Rattle.oso_read.proofs.MadeUp.{makes_up_facts}
+use Rattle.oso_read.proofs.MetaTypes.{no_closure_array, type_has_values}
 use Rattle.oso_read.proofs.Fields.{IsFront, dull_front, name_front, type_front, value_fronts}
 use Rattle.oso_read.proofs.Data.{IsData, IsBack, meta_back, meta_written, meta_read}
 use Rattle.oso_read.proofs.SaidLines.{IsNoHint, BeginsHint, backs_begin, fronts_begin, parts_are, says_parts, first_said}
-use Rattle.oso_read.proofs.SplitLines.{IsWhole, IsSplit, words_of_split}
 use Rattle.oso_read.proofs.Dull.{dull_all}
 use Rattle.osl_valuetext.specs.declared.place.Place.TheVariants.{Open}
 use Rattle.osl_valuetext.specs.Splitting.{is_blank}
@@ -51,16 +54,8 @@ use Rattle.osl_valuetext.proofs.Runs.{run}
 
 -- ---- tests of lists, as facts on their elements
 
-pub bytes_are : (bytes : List ℕ) → are_bytes bytes ≡ true → AreBytes bytes
-bytes_are bytes h = all_pass IsByte (λ c. nat_lt c 256) (λ c k. ltb-true c 256 k) bytes h
-
 are_all_bytes : (bytes : List ℕ) → AreBytes bytes → are_bytes bytes ≡ true
 are_all_bytes bytes all = pass_all IsByte (λ c. nat_lt c 256) (λ c k. lt-ltb c 256 k) bytes all
-
-pub text_is : (text : List ℕ) → is_text text ≡ true → IsText text
-text_is text h =
-    let parts = and_parts (are_bytes text) (is_short text) h in
-    record { bytes = bytes_are text parts.0; short = leb-true (length text) longest_text parts.1 }
 
 is_a_text : (text : List ℕ) → IsText text → is_text text ≡ true
 is_a_text text is = and_from _ _ (are_all_bytes text is.bytes) (le-leb (length text) longest_text is.short)
@@ -209,11 +204,6 @@ begins_said l word front back first here before behind e = begins_front l (word_
 abbrev typed_made : Ty → Line → Typed
 typed_made ty rest = record { ty = ty; rest = rest }
 
-no_closure_array : (len : ℕ) → is_type (typed Closure len) ≡ true → len ≡ 0
-no_closure_array len fits =
-    let parts = and_parts (nat_le len longest_array) (not (true && not (len == 0))) fits in
-    eqb-true len 0 (not-false (len == 0) (not-true (not (len == 0)) parts.1))
-
 typed_written : (base : Base) (len : ℕ) (rest : Line) → is_type (typed base len) ≡ true → typed_words (type_words (typed base len) ++ rest) ≡ Some (typed_made (typed base len) rest)
 unfolding typed_words
 typed_written Int len rest fits = ap (option_map (λ ty. typed_made ty rest)) (type_written (typed Int len) fits)
@@ -305,24 +295,20 @@ value_is wanted ty v h =
     let back = and_parts (same_type v.ty ty) (makes_up v.ty v.nums v.texts) parts.1 in
     (front.0, record { wanted = front.1; same = same_type-true v.ty ty back.0; makes = makes_up_facts v.ty v.nums v.texts back.1 })
 
-abbrev plain_made : Ty → Values → Plain
-plain_made ty v = record { ty = ty; nums = v.nums; texts = v.texts }
-
-value_at_written : (ty : Ty) (v : Plain) → ValueIs ty v → AllByRecursion IsText v.texts → value_at ty (value_words v.ty.base v.nums v.texts) ≡ Some v
+value_at_written : (ty : Ty) (v : Plain) → is_type ty ≡ true → ValueIs ty v → AllByRecursion IsText v.texts → value_at Canonical ty (value_words v.ty.base v.nums v.texts) ≡ Some v
 unfolding value_at
-value_at_written ty v is texts =
-    let shut : is_closure ty ≡ false = not-true (is_closure ty) is.wanted in
-    let at_own : option_map (plain_made v.ty) (values_at text_at v.ty (value_words v.ty.base v.nums v.texts)) ≡ Some v =
-    ap (option_map (plain_made v.ty)) (values_written text_at IsText text_written v.ty.base v.ty.len v.nums v.texts is.makes texts) in
-    cond-false _ _ _ shut ∙ subst (λ (t : Ty). option_map (plain_made t) (values_at text_at t (value_words v.ty.base v.nums v.texts)) ≡ Some v) is.same at_own
+value_at_written ty v fits is texts =
+    let at_own : option_map (value_of v.ty) (values_at Canonical text_at v.ty (value_words v.ty.base v.nums v.texts)) ≡ Some v =
+    ap (option_map (value_of v.ty)) (values_written Canonical text_at IsText text_written v.ty.base v.ty.len v.nums v.texts is.makes texts) in
+    cond-true _ _ _ (type_has_values ty fits is.wanted) ∙ subst (λ (t : Ty). option_map (value_of t) (values_at Canonical text_at t (value_words v.ty.base v.nums v.texts)) ≡ Some v) is.same at_own
 
-start_written : (class : Class) (ty : Ty) (value : Option Plain) → is_value_of (has_value class ty) ty value ≡ true → start_spells value ≡ true
+start_written : (class : Class) (ty : Ty) (value : Option Plain) → is_type ty ≡ true → is_value_of (has_value class ty) ty value ≡ true → start_spells value ≡ true
     → start_at class ty (start_words value) ≡ Some value
 unfolding start_at
-start_written class ty None is spells = cond-false _ _ _ (not-true (has_value class ty) is)
-start_written class ty (Some v) is spells =
+start_written class ty None fits is spells = cond-false _ _ _ (not-true (has_value class ty) is)
+start_written class ty (Some v) fits is spells =
     let parts = value_is (has_value class ty) ty v is in
-    cond-true _ _ _ parts.0 ∙ ap (option_map Some) (value_at_written ty v parts.1 (all_pass IsText is_text text_is v.texts spells))
+    cond-true _ _ _ parts.0 ∙ ap (option_map Some) (value_at_written ty v fits parts.1 (all_pass IsText is_text text_is v.texts spells))
 
 all_text_bytes : (texts : List (List ℕ)) → AllByRecursion IsText texts → AllByRecursion AreBytes texts
 all_text_bytes [] all = tt
@@ -357,7 +343,7 @@ symbol_written s is =
     ∙ ap (λ (o : Option Typed). o >>= λ t. metas_at s.class metadata >>= λ metas. named_at s.class t.ty t.rest metas) (typed_written s.ty.base s.ty.len (s.name ∷ behind_name) is.type)
     ∙ ap (λ (o : Option (List Meta)). o >>= λ metas. named_at s.class s.ty (s.name ∷ behind_name) metas) (metas_at_written s is)
     ∙ cond-true _ _ _ is.name
-    ∙ ap (option_map (symbol_made s.class s.ty s.name s.metas)) (start_written s.class s.ty s.value is.value is.value_spells)
+    ∙ ap (option_map (symbol_made s.class s.ty s.name s.metas)) (start_written s.class s.ty s.value is.type is.value is.value_spells)
 
 pub symbol_line_reads : (l : Line) (leading : Bool) (symbol : Symbol) → IsTrue (symbol_fits leading symbol) → IsTrue (symbol_spells symbol) → said l ≡ Some (symbol_line symbol)
     → (s : Saying) × (saying l ≡ Some s) × (symbol_at s ≡ Some symbol) × (begins_body l ≡ false)
@@ -377,21 +363,21 @@ symbol_line_reads l leading symbol fits spells e =
 
 -- ---- the line of a symbol, as it was written
 
-one_word : (base : Base) (len : ℕ) (word : List ℕ) → word ≡ type_text (typed base len) → IsWhole word → type_words (typed base len) ≡ word ∷ []
-one_word Int len word is whole = ap (λ (w : List ℕ). w ∷ []) (sym is)
-one_word Float len word is whole = ap (λ (w : List ℕ). w ∷ []) (sym is)
-one_word Color len word is whole = ap (λ (w : List ℕ). w ∷ []) (sym is)
-one_word Point len word is whole = ap (λ (w : List ℕ). w ∷ []) (sym is)
-one_word Vector len word is whole = ap (λ (w : List ℕ). w ∷ []) (sym is)
-one_word Normal len word is whole = ap (λ (w : List ℕ). w ∷ []) (sym is)
-one_word Matrix len word is whole = ap (λ (w : List ℕ). w ∷ []) (sym is)
-one_word Str len word is whole = ap (λ (w : List ℕ). w ∷ []) (sym is)
-one_word Closure len word is whole = let parted : None ≡ Some whole.0 = ap (run is_blank Open) (sym is) ∙ whole.1 in absurd cc
+one_word : (base : Base) (len : ℕ) (word : List ℕ) → word ≡ type_text (typed base len) → has_values (typed base len) ≡ true → type_words (typed base len) ≡ word ∷ []
+one_word Int len word is has = ap (λ (w : List ℕ). w ∷ []) (sym is)
+one_word Float len word is has = ap (λ (w : List ℕ). w ∷ []) (sym is)
+one_word Color len word is has = ap (λ (w : List ℕ). w ∷ []) (sym is)
+one_word Point len word is has = ap (λ (w : List ℕ). w ∷ []) (sym is)
+one_word Vector len word is has = ap (λ (w : List ℕ). w ∷ []) (sym is)
+one_word Normal len word is has = ap (λ (w : List ℕ). w ∷ []) (sym is)
+one_word Matrix len word is has = ap (λ (w : List ℕ). w ∷ []) (sym is)
+one_word Str len word is has = ap (λ (w : List ℕ). w ∷ []) (sym is)
+one_word Closure len word is has = let parts = and_parts (nat_le len longest_array) false has in absurd cc
 
-typed_read : (words : Line) (t : Typed) → IsSplit words → typed_words words ≡ Some t → words ≡ type_words t.ty ++ t.rest
+typed_read : (words : Line) (t : Typed) → typed_words words ≡ Some t → words ≡ type_words t.ty ++ t.rest
 unfolding typed_words
-typed_read [] t split e = absurd cc
-typed_read (word ∷ words) t split e = go (bytes_eq word (codes "closure")) refl e
+typed_read [] t e = absurd cc
+typed_read (word ∷ words) t e = go (bytes_eq word (codes "closure")) refl e
   where
     closure : (ws : Line) → word ≡ codes "closure" → closure_words ws ≡ Some t → word ∷ ws ≡ type_words t.ty ++ t.rest
     closure [] is h = absurd cc
@@ -407,7 +393,8 @@ typed_read (word ∷ words) t split e = go (bytes_eq word (codes "closure")) ref
     plain : (o : Option Ty) → type_at word ≡ o → option_map (λ ty. typed_made ty words) o ≡ Some t → word ∷ words ≡ type_words t.ty ++ t.rest
     plain (Some ty) read h =
         let same : typed_made ty words ≡ t = cc in
-        let one : type_words ty ≡ word ∷ [] = one_word ty.base ty.len word (type_read word ty read).0 split.0 in
+        let is = type_read word ty read in
+        let one : type_words ty ≡ word ∷ [] = one_word ty.base ty.len word is.0 is.1 in
         ap (λ (ws : Line). ws ++ words) (sym one) ∙ ap (λ (u : Typed). type_words u.ty ++ u.rest) same
     plain None read h = absurd cc
 
@@ -419,27 +406,27 @@ record WasStart (words : Line) (value : Option Plain) : Type 0 where
   words_are : words ≡ start_words value
   spells : start_spells value ≡ true
 
-value_at_read : (ty : Ty) (words : Line) (v : Plain) → value_at ty words ≡ Some v → WasStart words (Some v)
+value_at_read : (ty : Ty) (words : Line) (v : Plain) → value_at Canonical ty words ≡ Some v → WasStart words (Some v)
 unfolding value_at
-value_at_read ty words v e = go (is_closure ty) e
+value_at_read ty words v e = go (has_values ty) e
   where
-    from : (o : Option Values) → values_at text_at ty words ≡ o → option_map (plain_made ty) o ≡ Some v → WasStart words (Some v)
+    from : (o : Option Values) → values_at Canonical text_at ty words ≡ o → option_map (value_of ty) o ≡ Some v → WasStart words (Some v)
     from (Some u) read h =
-        let same : plain_made ty u ≡ v = cc in
+        let same : value_of ty u ≡ v = cc in
         let is = values_read IsText text_at text_read ty words u read in
-        let made : WasStart words (Some (plain_made ty u)) = record { words_are = is.words_are; spells = pass_all IsText is_text is_a_text u.texts is.all } in
+        let made : WasStart words (Some (value_of ty u)) = record { words_are = is.words_are; spells = pass_all IsText is_text is_a_text u.texts is.all } in
         subst (λ (x : Plain). WasStart words (Some x)) same made
     from None read h = absurd cc
 
-    go : (b : Bool) → cond b None (option_map (plain_made ty) (values_at text_at ty words)) ≡ Some v → WasStart words (Some v)
-    go true h = absurd cc
-    go false h = from (values_at text_at ty words) refl h
+    go : (b : Bool) → cond b (option_map (value_of ty) (values_at Canonical text_at ty words)) None ≡ Some v → WasStart words (Some v)
+    go true h = from (values_at Canonical text_at ty words) refl h
+    go false h = absurd cc
 
 start_read : (class : Class) (ty : Ty) (words : Line) (value : Option Plain) → start_at class ty words ≡ Some value → WasStart words value
 unfolding start_at
 start_read class ty words value e = go (has_value class ty) e
   where
-    some : (o : Option Plain) → value_at ty words ≡ o → option_map Some o ≡ Some value → WasStart words value
+    some : (o : Option Plain) → value_at Canonical ty words ≡ o → option_map Some o ≡ Some value → WasStart words value
     some (Some v) read h =
         let same : Some v ≡ value = cc in
         subst (λ (x : Option Plain). WasStart words x) same (value_at_read ty words v read)
@@ -453,8 +440,8 @@ start_read class ty words value e = go (has_value class ty) e
         subst (λ (x : Option Plain). WasStart words x) same made
     none false k h = absurd cc
 
-    go : (b : Bool) → ◌≡◌ {A = Option (Option Plain)} (cond b (option_map Some (value_at ty words)) (cond (length words == 0) (Some None) None)) (Some value) → WasStart words value
-    go true h = some (value_at ty words) refl h
+    go : (b : Bool) → ◌≡◌ {A = Option (Option Plain)} (cond b (option_map Some (value_at Canonical ty words)) (cond (length words == 0) (Some None) None)) (Some value) → WasStart words value
+    go true h = some (value_at Canonical ty words) refl h
     go false h = none (length words == 0) refl h
 
 record WasNamed (class : Class) (ty : Ty) (words : Line) (metas : List Meta) (s : Symbol) : Type 0 where
@@ -518,18 +505,18 @@ assembled word words metadata s class t metas is typed_is were was =
       spells = and_from _ _ was.spells (subst (λ (ms : List Meta). list_all datum_spells ms ≡ true) was.same_metas were.spells);
     }
 
-symbol_words_read : (words metadata : Line) (s : Symbol) → IsSplit words → symbol_words words metadata ≡ Some s → WasSymbol words metadata s
+symbol_words_read : (words metadata : Line) (s : Symbol) → symbol_words words metadata ≡ Some s → WasSymbol words metadata s
 unfolding symbol_words class_at
-symbol_words_read [] metadata s split e = absurd cc
-symbol_words_read (word ∷ words) metadata s split e =
+symbol_words_read [] metadata s e = absurd cc
+symbol_words_read (word ∷ words) metadata s e =
     let a = bound (class_named word) (λ class. typed_words words >>= λ t. metas_at class metadata >>= λ metas. named_at class t.ty t.rest metas) s e in
     let b = bound (typed_words words) (λ t. metas_at a.0 metadata >>= λ metas. named_at a.0 t.ty t.rest metas) s a.2 in
     let c = bound (metas_at a.0 metadata) (λ metas. named_at a.0 b.0.ty b.0.rest metas) s b.2 in
-    assembled word words metadata s a.0 b.0 c.0 (class_read word a.0 a.1) (typed_read words b.0 split.1 b.1) (metas_at_read a.0 metadata c.0 c.1) (named_read a.0 b.0.ty b.0.rest c.0 s c.2)
+    assembled word words metadata s a.0 b.0 c.0 (class_read word a.0 a.1) (typed_read words b.0 b.1) (metas_at_read a.0 metadata c.0 c.1) (named_read a.0 b.0.ty b.0.rest c.0 s c.2)
 
-pub symbol_line_says : (l : Line) (s : Saying) (symbol : Symbol) → IsSplit l → saying l ≡ Some s → symbol_at s ≡ Some symbol
+pub symbol_line_says : (l : Line) (s : Saying) (symbol : Symbol) → saying l ≡ Some s → symbol_at s ≡ Some symbol
     → (said l ≡ Some (symbol_line symbol)) × IsTrue (symbol_spells symbol)
 unfolding symbol_at
-symbol_line_says l s symbol split says e =
-    let was = symbol_words_read s.words s.metadata symbol (words_of_split l s split says) e in
+symbol_line_says l s symbol says e =
+    let was = symbol_words_read s.words s.metadata symbol e in
     (ap (option_map (λ (x : Saying). x.words ++ x.metadata)) says ∙ ap Some was.words_are, was.spells)

@@ -15,6 +15,7 @@ use Rattle.osl_value.specs.Types.{base_name, longest_array}
 use Rattle.osl_decimal.specs.Canonical.{fraction_text, magnitude_text, fx_text}
 use Rattle.oso_code.specs.Holding.{is_type, is_closure}
 use Rattle.oso_code.specs.Names.{is_name}
+use Rattle.osl_valuetext.specs.Spells.{IsByte}
 use Rattle.osl_valuetext.specs.Words.{escape, string_text, len_text, type_text, number_text, value_words}
 use Rattle.osl_valuetext.specs.declared.place.Place.{Place}
 use Rattle.osl_valuetext.specs.declared.place.Place.TheVariants.{Open, Quoted, Escaped, Braced, BracedQuoted, BracedEscaped}
@@ -23,7 +24,7 @@ use Rattle.oso_read.specs.Hints.{begins_hint}
 use Rattle.osl_valuetext.proofs.Alls.{all_map, all_both}
 use Rattle.osl_valuetext.proofs.Runs.{run, run_both, Holds}
 use Rattle.oso_read.proofs.Dull.{is_printed, IsDull, AllDull, run_dull, within, within-append, within_dull, printed_dull, dull_between, dull_both, dull_name, dull_decimal, dull_int, dull_fx, dull_all}
-use Rattle.osl_valuetext.proofs.Escapes.{AreBytes, IsByte, IsOctal, written}
+use Rattle.osl_valuetext.proofs.Escapes.{AreBytes, IsOctal, written}
 
 -- a field of a datum: commas in it are in strings, and braces and strings that it opens it closes
 pub record IsField (field : List ℕ) : Type 0 where

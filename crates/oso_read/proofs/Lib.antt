@@ -10,6 +10,7 @@ pub mod LastLine
 pub mod Limits
 pub mod LinesBehind
 pub mod MadeUp
+pub mod MetaTypes
 pub mod NameNumbers
 pub mod Named
 pub mod Numbering
@@ -28,7 +29,6 @@ pub mod SaidLines
 pub mod SaysBody
 pub mod SaysHead
 pub mod SpeltReads
-pub mod SplitLines
 pub mod ValidBody
 pub mod ValidHead
 pub mod ValidJumps

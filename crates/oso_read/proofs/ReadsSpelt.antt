@@ -24,7 +24,6 @@ use Rattle.oso_read.proofs.PlainLines.{end_line_says}
 use Rattle.oso_read.proofs.ReadValid.{read_is_valid}
 use Rattle.oso_read.proofs.SaysBody.{body_lines, EndsBody, FillSays, first_says}
 use Rattle.oso_read.proofs.SaysHead.{says, EndsWith, ends_through, head_line, OpenSays, opened_says, DeclareSays, declared_says}
-use Rattle.oso_read.proofs.SplitLines.{told_split}
 use Rattle.oso_read.proofs.ValidSymbols.{no_symbols, declared_are}
 
 -- ---- the end
@@ -129,8 +128,8 @@ reads_says bytes raw h =
     let o = goes_on (opened (line_count bytes + 1) (told bytes)) (declaring bytes) raw h in
     let d = goes_on (declared_from [] o.value.rest) (filling bytes o.value) raw o.rest in
     let f = goes_on (filled_from o.value.head.kind d.value.symbols empty_body d.value.rest) (closing bytes o.value d.value) raw d.rest in
-    let open_says = opened_says (line_count bytes + 1) (told bytes) o.value (told_split 1 bytes) o.gave in
-    let declare_says = declared_says [] o.value.rest d.value open_says.split d.gave in
+    let open_says = opened_says (line_count bytes + 1) (told bytes) o.value o.gave in
+    let declare_says = declared_says [] o.value.rest d.value d.gave in
     let are = declared_are [] o.value.rest d.value no_symbols d.gave in
     let fill_says = first_says o.value.head.kind d.value.symbols d.value.rest f.value are.rest f.gave in
     let closes = closed_says bytes (made o.value.head d.value.symbols f.value.body) raw f.value.body f.value.rest f.rest in

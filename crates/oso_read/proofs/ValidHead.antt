@@ -16,6 +16,7 @@ use Rattle.oso_code.specs.declared.symbol.Meta.{Meta}
 use Rattle.oso_code.specs.Holding.{is_type, fits_int, fits_float, fits_base, makes_up}
 use Rattle.oso_code.specs.Names.{is_name}
 use Rattle.oso_code.specs.Symbols.{datum_fits}
+use Rattle.osl_valuetext.specs.declared.number.Spelling.TheVariants.{Canonical}
 use Rattle.osl_valuetext.specs.Words.{Line}
 use Rattle.osl_valuetext.specs.declared.place.Place.TheVariants.{Open}
 use Rattle.oso_read.specs.Hints.{Saying}
@@ -23,8 +24,8 @@ use Rattle.osl_valuetext.specs.Literals.{each, string_at, Values, values_at}
 use Rattle.oso_read.specs.Text.{only_word}
 use Rattle.oso_read.specs.SymbolLine.{kind_named, Head, head_words, head_at}
 use Rattle.osl_valuetext.specs.Splitting.{pieces, is_comma}
-use Rattle.osl_valuetext.specs.Types.{opens_length, base_named, length_or_none, type_at}
-use Rattle.oso_read.specs.Data.{datum_of, is_meta, in_braces, meta_at}
+use Rattle.oso_read.specs.Data.{meta_type_at, datum_of, is_meta, in_braces, meta_at}
+use Rattle.oso_read.proofs.MetaTypes.{meta_type_read}
 use Rattle.oso_read.proofs.Passing.{some_of, follows, maps, tested}
 use Rattle.osl_valuetext.proofs.Plains.{each_all, AreNumbers, numbers_are, AreStrings, strings_are}
 
@@ -66,29 +67,20 @@ of_strings ty v none are = made_up ty v (ap length are.none ∙ sym none) are.co
 abbrev typed : Base → ℕ → Ty
 typed base len = record { base = base; len = len }
 
-pub values_fit : (read : List ℕ → Option (List ℕ)) (base : Base) (len : ℕ) (words : Line) (v : Values) → values_at read (record { base = base; len = len }) words ≡ Some v
+pub values_fit : (read : List ℕ → Option (List ℕ)) (base : Base) (len : ℕ) (words : Line) (v : Values) → values_at Canonical read (record { base = base; len = len }) words ≡ Some v
     → IsTrue (makes_up (record { base = base; len = len }) v.nums v.texts)
 unfolding values_at
-values_fit read Int len words v e = of_numbers (typed Int len) v (omega arith) (numbers_are (typed Int len) words v e)
-values_fit read Float len words v e = of_numbers (typed Float len) v (omega arith) (numbers_are (typed Float len) words v e)
-values_fit read Color len words v e = of_numbers (typed Color len) v (omega arith) (numbers_are (typed Color len) words v e)
-values_fit read Point len words v e = of_numbers (typed Point len) v (omega arith) (numbers_are (typed Point len) words v e)
-values_fit read Vector len words v e = of_numbers (typed Vector len) v (omega arith) (numbers_are (typed Vector len) words v e)
-values_fit read Normal len words v e = of_numbers (typed Normal len) v (omega arith) (numbers_are (typed Normal len) words v e)
-values_fit read Matrix len words v e = of_numbers (typed Matrix len) v (omega arith) (numbers_are (typed Matrix len) words v e)
+values_fit read Int len words v e = of_numbers (typed Int len) v (omega arith) (numbers_are Canonical (typed Int len) words v e)
+values_fit read Float len words v e = of_numbers (typed Float len) v (omega arith) (numbers_are Canonical (typed Float len) words v e)
+values_fit read Color len words v e = of_numbers (typed Color len) v (omega arith) (numbers_are Canonical (typed Color len) words v e)
+values_fit read Point len words v e = of_numbers (typed Point len) v (omega arith) (numbers_are Canonical (typed Point len) words v e)
+values_fit read Vector len words v e = of_numbers (typed Vector len) v (omega arith) (numbers_are Canonical (typed Vector len) words v e)
+values_fit read Normal len words v e = of_numbers (typed Normal len) v (omega arith) (numbers_are Canonical (typed Normal len) words v e)
+values_fit read Matrix len words v e = of_numbers (typed Matrix len) v (omega arith) (numbers_are Canonical (typed Matrix len) words v e)
 values_fit read Str len words v e = of_strings (typed Str len) v (omega arith) (strings_are read (typed Str len) words v e)
-values_fit read Closure len words v e = of_numbers (typed Closure len) v (omega arith) (numbers_are (typed Closure len) words v e)
+values_fit read Closure len words v e = of_numbers (typed Closure len) v (omega arith) (numbers_are Canonical (typed Closure len) words v e)
 
 -- ---- metadata
-
-pub type_fits : (word : List ℕ) (ty : Ty) → type_at word ≡ Some ty → IsTrue (is_type ty)
-unfolding type_at
-type_fits word ty h =
-    let name = before_first opens_length word in
-    let named = follows (base_named name) (λ base. _) ty h in
-    let counted = follows (length_or_none _) (λ len. if is_type (typed named.value len) then Some (typed named.value len) else None) ty named.rest in
-    let test = tested (is_type (typed named.value counted.value)) (Some (typed named.value counted.value)) ty counted.rest in
-    subst (λ (t : Ty). IsTrue (is_type t)) (some_of (typed named.value counted.value) ty test.1) test.0
 
 abbrev datum : Ty → List ℕ → Values → Meta
 datum ty name v = record { ty = ty; name = name; nums = v.nums; texts = v.texts }
@@ -98,13 +90,13 @@ unfolding datum_of
 words_fit [] m h = absurd (cc h)
 words_fit (ty ∷ []) m h = absurd (cc h)
 words_fit (ty ∷ name ∷ values) m h =
-    let typed = follows (type_at ty) (λ t. if is_name name then option_map (λ v. datum t name v) (values_at string_at t values) else None) m h in
+    let typed = follows (meta_type_at ty) (λ t. if is_name name then option_map (λ v. datum t name v) (values_at Canonical string_at t values) else None) m h in
     let t = typed.value in
-    let test = tested (is_name name) (option_map (λ v. datum t name v) (values_at string_at t values)) m typed.rest in
-    let read = maps (λ v. datum t name v) (values_at string_at t values) m test.1 in
+    let test = tested (is_name name) (option_map (λ v. datum t name v) (values_at Canonical string_at t values)) m typed.rest in
+    let read = maps (λ v. datum t name v) (values_at Canonical string_at t values) m test.1 in
     subst (λ (d : Meta). IsTrue (datum_fits d)) read.image
     (and_from (is_name name && is_type t) (makes_up t read.value.nums read.value.texts)
-    (and_from (is_name name) (is_type t) test.0 (type_fits ty t typed.is))
+    (and_from (is_name name) (is_type t) test.0 (meta_type_read ty t typed.is).1)
     (values_fit string_at t.base t.len values read.value read.is))
 
 pub meta_fits : (word : List ℕ) (m : Meta) → meta_at word ≡ Some m → IsTrue (datum_fits m)

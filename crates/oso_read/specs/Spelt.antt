@@ -1,5 +1,5 @@
 -- Which bytes spell a shader.
-use Rattle.std.specs.Prelude.{◌≡◌, ℕ, nat_lt, Bool, true, false, ◌&&◌, ◌==◌, List, map, Option, None, Some, IsTrue}
+use Rattle.std.specs.Prelude.{◌≡◌, ℕ, Bool, true, false, ◌&&◌, ◌==◌, List, map, Option, None, Some, IsTrue}
 use Rattle.std.specs.List.{after_last, list_all}
 use Rattle.osl_value.specs.Plain.{Plain}
 use Rattle.oso_code.specs.declared.raw.Raw.{Raw}
@@ -10,15 +10,9 @@ use Rattle.oso_write.specs.Lines.{lines_of}
 use Rattle.osl_valuetext.specs.Splitting.{words}
 use Rattle.oso_read.specs.Text.{means, told}
 use Rattle.oso_read.specs.Hints.{said}
-use Rattle.osl_valuetext.specs.Literals.{is_short}
+use Rattle.osl_valuetext.specs.Spells.{are_bytes, is_text}
 
 -- ---- strings, which hold bytes, those of values at most 512
-
-abbrev pub are_bytes : List ℕ → Bool
-are_bytes bytes = list_all (λ c. nat_lt c 256) bytes
-
-abbrev pub is_text : List ℕ → Bool
-is_text bytes = are_bytes bytes && is_short bytes
 
 abbrev pub datum_spells : Meta → Bool
 datum_spells meta = list_all are_bytes meta.texts

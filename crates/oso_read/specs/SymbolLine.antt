@@ -11,13 +11,13 @@ use Rattle.oso_code.specs.declared.symbol.Class.{Class}
 use Rattle.oso_code.specs.declared.symbol.Class.TheVariants as classes
 use Rattle.oso_code.specs.declared.symbol.Meta.{Meta}
 use Rattle.oso_code.specs.declared.symbol.Symbol.{Symbol}
-use Rattle.oso_code.specs.Holding.{is_closure}
 use Rattle.oso_code.specs.Names.{is_name}
 use Rattle.oso_code.specs.Symbols.{is_parameter, has_value}
 use Rattle.oso_write.specs.Names.{kind_name, class_name}
 use Rattle.osl_valuetext.specs.Words.{Line}
 use Rattle.oso_read.specs.Hints.{Saying}
-use Rattle.osl_valuetext.specs.Literals.{◌>>=◌, each, text_at, values_at}
+use Rattle.osl_valuetext.specs.declared.number.Spelling.TheVariants.{Canonical}
+use Rattle.osl_valuetext.specs.Literals.{◌>>=◌, each, value_at}
 use Rattle.oso_read.specs.Text.{only_word}
 use Rattle.osl_valuetext.specs.Types.{type_at}
 use Rattle.oso_read.specs.Data.{meta_at}
@@ -67,16 +67,10 @@ typed_words (word ∷ words) =
     if bytes_eq word (codes "closure") then closure_words words
     else option_map (λ ty. record { ty = ty; rest = words }) (type_at word)
 
--- a value of a type that is no closure, its strings of at most 512 bytes
-unfoldable pub value_at : Ty → Line → Option Plain
-value_at ty words =
-    if is_closure ty then None
-    else option_map (λ v. record { ty = ty; nums = v.nums; texts = v.texts }) (values_at text_at ty words)
-
 -- the value of a constant and of a parameter that is no closure, and no words for others
 unfoldable pub start_at : Class → Ty → Line → Option (Option Plain)
 start_at class ty words =
-    if has_value class ty then option_map Some (value_at ty words)
+    if has_value class ty then option_map Some (value_at Canonical ty words)
     else (if length words == 0 then Some None else None)
 
 -- metadata stands on parameters alone

@@ -2,33 +2,12 @@
 
 ghost use Rattle.std.specs.Prelude.{◌≡◌, true, IsTrue};
 ghost use Rattle.std.specs.List.{list_all};
-ghost use Rattle.oso_read.specs.Spelt.{are_bytes, is_text, datum_spells, start_spells, symbol_spells, can_spell};
+ghost use Rattle.osl_valuetext.specs.Spells.{are_bytes};
+ghost use Rattle.oso_read.specs.Spelt.{datum_spells, start_spells, symbol_spells, can_spell};
 
-use osl_value::{Text, Value};
+use osl_value::Value;
+use osl_valuetext::laws::{are_bytes, are_texts};
 use oso_code::{ListOf, Meta, Raw, Symbol};
-
-/// They are bytes.
-fn are_bytes(bytes: &[u8])
-    ensures { are_bytes bytes.now ≡ true }
-{
-    let _len = bytes.len();
-}
-
-/// The string of a value can be spelled.
-fn is_text(text: &Text)
-    ensures { is_text text.now ≡ true }
-{
-    are_bytes(text.bytes());
-}
-
-/// The strings of a value can be spelled.
-fn are_texts(texts: &[Text])
-    ensures { list_all is_text texts.now ≡ true }
-{
-    for text in texts {
-        is_text(text);
-    }
-}
 
 /// What a symbol starts at can be spelled.
 fn start_spells(start: &Option<Value>)

@@ -1,6 +1,6 @@
 use Rattle.std.proofs.Common.{◌≡◌, true, take}
 use Rattle.std.specs.List.{list_all}
-use Rattle.oso_read.specs.Spelt.{are_bytes}
+use Rattle.osl_valuetext.specs.Spells.{are_bytes}
 use Rattle.oso_read.proofs.strings.are_all_bytes.Given as goal
 
 abbrev pub invariant-loop-text : goal.invariant-loop-text

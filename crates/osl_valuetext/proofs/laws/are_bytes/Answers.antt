@@ -1,8 +1,8 @@
 use Rattle.std.proofs.Common.{◌≡◌, ℕ, suc, ◌<◌, true, List, [], ◌∷◌, refl, Fits, w8, rules}
 use Rattle.std.specs.Prelude.{slice_index}
 use Rattle.std.proofs.lemmas.Bool.{and_from, lt-ltb}
-use Rattle.oso_read.specs.Spelt.{are_bytes}
-use Rattle.oso_read.proofs.strings.are_bytes.Goals as goal
+use Rattle.osl_valuetext.specs.Spells.{are_bytes}
+use Rattle.osl_valuetext.proofs.laws.are_bytes.Goals as goal
 
 below : (c : ℕ) → Fits w8 c → c < 256
 below c fits = search rules
