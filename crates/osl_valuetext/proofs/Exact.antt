@@ -13,11 +13,11 @@ use Rattle.osl_value.specs.Types.{same_base, number_count, text_count, longest_a
 use Rattle.osl_valuetext.specs.declared.number.Spelling.{Spelling}
 use Rattle.osl_valuetext.specs.declared.number.Spelling.TheVariants.{Canonical, Free}
 use Rattle.osl_valuetext.specs.Words.{Line, type_text, string_text, number_text, value_words}
-use Rattle.osl_valuetext.specs.Literals.{◌>>=◌, each, number_at, string_at, text_at, is_short, has_values, value_of, Values, numbers_at, strings_at, values_at, value_at}
+use Rattle.osl_valuetext.specs.Literals.{◌>>=◌, each, number_at, string_at, text_at, is_short, is_plain_type, value_of, Values, numbers_at, strings_at, values_at, value_at}
 use Rattle.osl_valuetext.specs.Types.{type_at}
 use Rattle.osl_valuetext.specs.Spells.{IsByte, StringWord, TextWord, are_bytes, is_text, TypeWord, Literal, OneForOne, Spelled, ValueWords}
 use Rattle.osl_valuetext.proofs.Alls.{all_pass}
-use Rattle.osl_valuetext.proofs.Plains.{bound, counted, number_fits, with_values, has_values_from, values_are_plain}
+use Rattle.osl_valuetext.proofs.Plains.{bound, counted, number_fits, plain_type, plain_type_from, values_are_plain}
 use Rattle.osl_valuetext.proofs.Canonicals.{number_written, number_read}
 use Rattle.osl_valuetext.proofs.Escapes.{AreBytes, string_written, string_read}
 use Rattle.osl_valuetext.proofs.TypeTexts.{typed, type_written, type_read}
@@ -46,11 +46,11 @@ text_there word text is =
 pub type_spelled : (word : List ℕ) (ty : Ty) → type_at word ≡ Some ty → TypeWord word ty
 type_spelled word ty e =
     let is = type_read word ty e in
-    let has = with_values ty is.1 in
+    let has = plain_type ty is.1 in
     record { text = is.0; no_closure = has.no_closure; short = has.short }
 
 pub type_there : (word : List ℕ) (ty : Ty) → TypeWord word ty → type_at word ≡ Some ty
-type_there word ty is = ap type_at is.text ∙ type_written ty (has_values_from ty is.no_closure is.short)
+type_there word ty is = ap type_at is.text ∙ type_written ty (plain_type_from ty is.no_closure is.short)
 
 pub literal_spelled : (s : Spelling) (base : Base) (word : List ℕ) (n : ℤ) → number_at s base word ≡ Some n → Literal s base word n
 literal_spelled Canonical base word n e = (number_read base word n e, number_fits Canonical base word n e)
@@ -117,16 +117,16 @@ all_spelled s ty words u e = go (same_base ty.base Str) e
 
 pub value_spelled : (s : Spelling) (ty : Ty) (words : Line) (v : Plain) → value_at s ty words ≡ Some v → (v.ty ≡ ty) × ValueWords s words v
 unfolding value_at
-value_spelled s ty words v e = go (has_values ty) refl e
+value_spelled s ty words v e = go (is_plain_type ty) refl e
   where
-    from : has_values ty ≡ true → (o : Option Values) → values_at s text_at ty words ≡ o → option_map (value_of ty) o ≡ Some v → (v.ty ≡ ty) × ValueWords s words v
+    from : is_plain_type ty ≡ true → (o : Option Values) → values_at s text_at ty words ≡ o → option_map (value_of ty) o ≡ Some v → (v.ty ≡ ty) × ValueWords s words v
     from has (Some u) read h =
         let same : value_of ty u ≡ v = cc in
         let made : ValueWords s words (value_of ty u) = record { is_plain = values_are_plain s ty words u has read; spelled = all_spelled s ty words u read } in
         (ap (λ (x : Plain). x.ty) (sym same), subst (λ (x : Plain). ValueWords s words x) same made)
     from has None read h = absurd cc
 
-    go : (b : Bool) → has_values ty ≡ b → cond b (option_map (value_of ty) (values_at s text_at ty words)) None ≡ Some v → (v.ty ≡ ty) × ValueWords s words v
+    go : (b : Bool) → is_plain_type ty ≡ b → cond b (option_map (value_of ty) (values_at s text_at ty words)) None ≡ Some v → (v.ty ≡ ty) × ValueWords s words v
     go true has h = from has (values_at s text_at ty words) refl h
     go false has h = absurd cc
 
@@ -164,7 +164,7 @@ values_there s Closure len words nums texts is all = absurd (is.no_closure refl)
 pub value_there : (s : Spelling) (words : Line) (v : Plain) → ValueWords s words v → value_at s v.ty words ≡ Some v
 unfolding value_at
 value_there s words v is =
-    cond-true _ _ _ (has_values_from v.ty is.is_plain.no_closure is.is_plain.short)
+    cond-true _ _ _ (plain_type_from v.ty is.is_plain.no_closure is.is_plain.short)
     ∙ ap (option_map (value_of v.ty)) (values_there s v.ty.base v.ty.len words v.nums v.texts is.is_plain is.spelled)
 
 pub value_exact : (s : Spelling) (ty : Ty) (words : Line) (v : Plain) → (v.ty ≡ ty) × ValueWords s words v → value_at s ty words ≡ Some v
@@ -178,7 +178,7 @@ unfolding value_at
 value_written s v is texts =
     let makes : MakesUp v.ty v.nums v.texts =
     record { nums_count = is.nums_fit; texts_count = is.texts_fit; fit = recursion_from_All (IsNumberOf v.ty.base) v.nums is.in_range } in
-    cond-true _ _ _ (has_values_from v.ty is.no_closure is.short)
+    cond-true _ _ _ (plain_type_from v.ty is.no_closure is.short)
     ∙ ap (option_map (value_of v.ty)) (values_written s text_at IsText text_written v.ty.base v.ty.len v.nums v.texts makes texts)
 
 -- ---- tests

@@ -17,7 +17,7 @@ use Rattle.osl_decimal.specs.Decimal.{int_of, fx_of}
 use Rattle.osl_valuetext.specs.declared.number.Spelling.{Spelling}
 use Rattle.osl_valuetext.specs.declared.number.Spelling.TheVariants.{Canonical, Free}
 use Rattle.osl_valuetext.specs.Words.{Line}
-use Rattle.osl_valuetext.specs.Literals.{◌>>=◌, each, spelled, int_at, fx_at, int_word, fx_word, number_at, text_at, has_values, value_of, value_at, Values, numbers_at, strings_at, values_at}
+use Rattle.osl_valuetext.specs.Literals.{◌>>=◌, each, spelled, int_at, fx_at, int_word, fx_word, number_at, text_at, is_plain_type, value_of, value_at, Values, numbers_at, strings_at, values_at}
 use Rattle.osl_valuetext.proofs.Spellings.{int_in_range, fx_in_range}
 
 -- all pass a test that always holds
@@ -165,12 +165,12 @@ values_make_up s Str len words v h c e = of_strings (typed Str len) v h c (omega
 values_make_up s Closure len words v h c e = absurd (c refl)
 
 -- what a test of types says
-pub record HasValues (ty : Ty) : Type 0 where
+pub record IsPlainType (ty : Ty) : Type 0 where
   pub no_closure : ty.base ≡ Closure → ⊥
   pub short : ty.len ≤ longest_array
 
-pub with_values : (ty : Ty) → has_values ty ≡ true → HasValues ty
-with_values ty h =
+pub plain_type : (ty : Ty) → is_plain_type ty ≡ true → IsPlainType ty
+plain_type ty h =
     let parts = and_parts (nat_le ty.len longest_array) (not (same_base ty.base Closure)) h in
     let other : same_base ty.base Closure ≡ false = not-true (same_base ty.base Closure) parts.1 in
     record { no_closure = λ e. absurd (no_bool (ap (λ (b : Base). same_base b Closure) (sym e) ∙ other)); short = leb-true ty.len longest_array parts.0 }
@@ -178,8 +178,8 @@ with_values ty h =
     no_bool : true ≡ false → ⊥
     no_bool e = absurd cc
 
-pub has_values_from : (ty : Ty) → (ty.base ≡ Closure → ⊥) → ty.len ≤ longest_array → has_values ty ≡ true
-has_values_from ty other short = and_from _ _ (le-leb ty.len longest_array short) (go ty.base other)
+pub plain_type_from : (ty : Ty) → (ty.base ≡ Closure → ⊥) → ty.len ≤ longest_array → is_plain_type ty ≡ true
+plain_type_from ty other short = and_from _ _ (le-leb ty.len longest_array short) (go ty.base other)
   where
     go : (base : Base) → (base ≡ Closure → ⊥) → not (same_base base Closure) ≡ true
     go Int c = refl
@@ -192,5 +192,5 @@ has_values_from ty other short = and_from _ _ (le-leb ty.len longest_array short
     go Str c = refl
     go Closure c = absurd (c refl)
 
-pub values_are_plain : (s : Spelling) (ty : Ty) (words : Line) (v : Values) → has_values ty ≡ true → values_at s text_at ty words ≡ Some v → IsPlain ty v.nums v.texts
-values_are_plain s ty words v h e = let has = with_values ty h in values_make_up s ty.base ty.len words v has.short has.no_closure e
+pub values_are_plain : (s : Spelling) (ty : Ty) (words : Line) (v : Values) → is_plain_type ty ≡ true → values_at s text_at ty words ≡ Some v → IsPlain ty v.nums v.texts
+values_are_plain s ty words v h e = let has = plain_type ty h in values_make_up s ty.base ty.len words v has.short has.no_closure e

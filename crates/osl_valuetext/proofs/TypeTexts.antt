@@ -13,9 +13,9 @@ use Rattle.osl_value.specs.declared.types.Base.TheVariants.{Int, Float, Color, P
 use Rattle.osl_value.specs.declared.types.Ty.{Ty}
 use Rattle.osl_value.specs.Types.{base_name, longest_array}
 use Rattle.osl_valuetext.specs.Words.{len_text, type_text}
-use Rattle.osl_valuetext.specs.Literals.{◌>>=◌, decimal_at, has_values}
+use Rattle.osl_valuetext.specs.Literals.{◌>>=◌, decimal_at, is_plain_type}
 use Rattle.osl_valuetext.specs.Types.{all_bases, base_named, opens_length, length_at, length_or_none, type_at}
-use Rattle.osl_valuetext.proofs.Plains.{bound, with_values}
+use Rattle.osl_valuetext.proofs.Plains.{bound, plain_type}
 use Rattle.osl_valuetext.proofs.Canonicals.{decimal_written, decimal_read}
 use Rattle.osl_valuetext.proofs.Rounds.{round}
 
@@ -127,15 +127,15 @@ abbrev pub typed : Base → ℕ → Ty
 typed base len = record { base = base; len = len }
 
 abbrev checked : Ty → Option Ty
-checked ty = cond (has_values ty) (Some ty) None
+checked ty = cond (is_plain_type ty) (Some ty) None
 
 -- the type of a name with a length behind it
 abbrev made_of : List ℕ → List ℕ → Option Ty
 made_of name rest = base_named name >>= λ base. length_or_none rest >>= λ len. checked (typed base len)
 
-made_written : (ty : Ty) → has_values ty ≡ true → made_of (base_name ty.base) (len_text ty.len) ≡ Some ty
+made_written : (ty : Ty) → is_plain_type ty ≡ true → made_of (base_name ty.base) (len_text ty.len) ≡ Some ty
 made_written ty fits =
-    let has = with_values ty fits in
+    let has = plain_type ty fits in
     let short : ty.len ≤ longest_array = has.short in
     ap (λ (o : Option Base). o >>= λ base. length_or_none (len_text ty.len) >>= λ len. checked (typed base len)) (base_written ty.base has.no_closure)
     ∙ ap (λ (o : Option ℕ). o >>= λ len. checked (typed ty.base len)) (length_written ty.len (omega arith))
@@ -148,7 +148,7 @@ split_name ty = go (ty.len == 0)
     go true = ap (before_first opens_length) (append-nil (base_name ty.base)) ∙ name_alone ty.base
     go false = name_before ty.base (decimal ty.len ++ 93 ∷ [])
 
-pub type_written : (ty : Ty) → has_values ty ≡ true → type_at (type_text ty) ≡ Some ty
+pub type_written : (ty : Ty) → is_plain_type ty ≡ true → type_at (type_text ty) ≡ Some ty
 unfolding type_at
 type_written ty fits =
     ap (λ (name : List ℕ). made_of name (drop (length name) (type_text ty))) (split_name ty)
@@ -159,7 +159,7 @@ rejoined : (k : ℕ) (word : List ℕ) → take k word ++ drop (length (take k w
 rejoined k word =
     ap (λ (n : ℕ). take k word ++ drop n word) (length-take k word) ∙ ap (λ (t : List ℕ). take k word ++ t) (drop_min k word) ∙ take-append-drop k word
 
-pub type_read : (word : List ℕ) (ty : Ty) → type_at word ≡ Some ty → (word ≡ type_text ty) × (has_values ty ≡ true)
+pub type_read : (word : List ℕ) (ty : Ty) → type_at word ≡ Some ty → (word ≡ type_text ty) × (is_plain_type ty ≡ true)
 unfolding type_at
 type_read word ty e =
     let name = before_first opens_length word in
@@ -168,8 +168,8 @@ type_read word ty e =
     let b = bound (length_or_none rest) (λ len. checked (typed a.0 len)) ty a.2 in
     let whole : word ≡ base_name a.0 ++ len_text b.0 =
     sym (rejoined (position_or_len opens_length word) word) ∙ ap (λ (t : List ℕ). t ++ rest) (base_read name a.0 a.1) ∙ ap (λ (t : List ℕ). base_name a.0 ++ t) (length_or_none_read rest b.0 b.1) in
-    go (typed a.0 b.0) whole (has_values (typed a.0 b.0)) refl b.2
+    go (typed a.0 b.0) whole (is_plain_type (typed a.0 b.0)) refl b.2
   where
-    go : (made : Ty) → word ≡ type_text made → (t : Bool) → has_values made ≡ t → cond t (Some made) None ≡ Some ty → (word ≡ type_text ty) × (has_values ty ≡ true)
-    go made is true fits h = let same : made ≡ ty = cc in (is ∙ ap type_text same, ap has_values (sym same) ∙ fits)
+    go : (made : Ty) → word ≡ type_text made → (t : Bool) → is_plain_type made ≡ t → cond t (Some made) None ≡ Some ty → (word ≡ type_text ty) × (is_plain_type ty ≡ true)
+    go made is true fits h = let same : made ≡ ty = cc in (is ∙ ap type_text same, ap is_plain_type (sym same) ∙ fits)
     go made is false fits h = absurd cc

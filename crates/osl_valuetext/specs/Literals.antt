@@ -134,8 +134,8 @@ text_at word = string_at word >>= λ bytes. if is_short bytes then Some bytes el
 -- ---- values
 
 -- a type that has values: no closure, and no array longer than 1,024
-abbrev pub has_values : Ty → Bool
-has_values ty = nat_le ty.len longest_array && not (same_base ty.base Closure)
+abbrev pub is_plain_type : Ty → Bool
+is_plain_type ty = nat_le ty.len longest_array && not (same_base ty.base Closure)
 
 pub record Values : Type 0 where
   pub nums : List ℤ
@@ -158,4 +158,4 @@ value_of ty v = record { ty = ty; nums = v.nums; texts = v.texts }
 
 -- a value of a type that has values, its strings of at most 512 bytes: none where the words are too few or too many, or one of them is not of the type
 unfoldable pub value_at : Spelling → Ty → Line → Option Plain
-value_at spelling ty words = if has_values ty then option_map (value_of ty) (values_at spelling text_at ty words) else None
+value_at spelling ty words = if is_plain_type ty then option_map (value_of ty) (values_at spelling text_at ty words) else None

@@ -6,7 +6,7 @@ use Rattle.osl_value.specs.declared.types.Base.{Base}
 use Rattle.osl_value.specs.declared.types.Base.TheVariants.{Int, Float, Color, Point, Vector, Normal, Matrix, Str}
 use Rattle.osl_value.specs.declared.types.Ty.{Ty}
 use Rattle.osl_value.specs.Types.{base_name}
-use Rattle.osl_valuetext.specs.Literals.{◌>>=◌, decimal_at, has_values}
+use Rattle.osl_valuetext.specs.Literals.{◌>>=◌, decimal_at, is_plain_type}
 
 -- the base types that have values
 abbrev pub all_bases : List Base
@@ -34,4 +34,4 @@ type_at word =
     let name = before_first opens_length word in
     base_named name >>= λ base. length_or_none (drop (length name) word) >>= λ len.
     let ty : Ty = record { base = base; len = len } in
-    if has_values ty then Some ty else None
+    if is_plain_type ty then Some ty else None

@@ -19,7 +19,7 @@ mod write;
 pub use escape::{read_string, read_text};
 pub use number::{Spelling, read_decimal, read_number, read_numbers};
 pub use place::Place;
-pub use types::{has_values, read_type};
+pub use types::{is_plain_type, read_type};
 pub use unread::Unread;
 pub use values::{read_counted_numbers, read_value};
 pub use words::{Parting, split, split_words};

@@ -2,7 +2,7 @@
 
 ghost use Rattle.std.specs.Prelude.{◌≡◌, true, length, drop, position, IfSome};
 ghost use Rattle.std.specs.List.{before_first};
-ghost use Rattle.osl_valuetext.specs.Literals.{has_values};
+ghost use Rattle.osl_valuetext.specs.Literals.{is_plain_type};
 ghost use Rattle.osl_valuetext.specs.Types.{base_named, opens_length, length_at, length_or_none, type_at};
 
 use crate::number::read_decimal;
@@ -12,8 +12,8 @@ use osl_value::{Base, Ty};
 const LONGEST_ARRAY: u32 = 1024;
 
 /// Whether a type has values: it is no closure, and no array longer than 1,024.
-pub fn has_values(ty: Ty) -> bool
-    ensures { result ≡ has_values ty }
+pub fn is_plain_type(ty: Ty) -> bool
+    ensures { result ≡ is_plain_type ty }
 {
     ty.len <= LONGEST_ARRAY && ty.base != Base::Closure
 }
@@ -86,11 +86,11 @@ fn length_or_none(text: &[u8]) -> Option<u32>
 #[tactic(auto, unfolding(crate::specs::Types::type_at))]
 pub fn read_type(word: &[u8]) -> Option<Ty>
     ensures value { result ≡ type_at word.now }
-    ensures fits { IfSome result (λ ty. has_values ty ≡ true) }
+    ensures fits { IfSome result (λ ty. is_plain_type ty ≡ true) }
 {
     let (name, len) = split_length(word);
     let base = base_named(name)?;
     let len = length_or_none(len)?;
     let ty = Ty { base, len };
-    if has_values(ty) { Some(ty) } else { None }
+    if is_plain_type(ty) { Some(ty) } else { None }
 }

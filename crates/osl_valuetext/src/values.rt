@@ -7,7 +7,7 @@ ghost use Rattle.osl_valuetext.specs.Unread.{Tells};
 
 use crate::escape::read_text;
 use crate::number::{Spelling, read_numbers};
-use crate::types::has_values;
+use crate::types::is_plain_type;
 use crate::unread::Unread;
 use osl_value::{Base, Text, Ty, Value};
 use std::alloc::Global;
@@ -83,7 +83,7 @@ pub fn read_value(
 ) -> Result<Value, Unread>
     ensures { Tells (λ value. value) result (value_at spelling ty (spoken words.now)) }
 {
-    if !has_values(ty) {
+    if !is_plain_type(ty) {
         return Err(Unread::Misspelled);
     }
     let (nums, texts) = value_parts(alloc, spelling, ty, words)?;

@@ -26,7 +26,7 @@ use Rattle.osl_valuetext.specs.Words.{Line, type_text, value_words}
 use Rattle.oso_write.specs.Lines.{meta_text, start_words, symbol_line}
 use Rattle.oso_write.specs.Names.{kind_name, class_name, type_words}
 use Rattle.oso_read.specs.Hints.{begins_hint, Saying, word_count, saying, said}
-use Rattle.osl_valuetext.specs.Literals.{◌>>=◌, each, has_values, value_of, text_at, is_short, Values, values_at, value_at}
+use Rattle.osl_valuetext.specs.Literals.{◌>>=◌, each, is_plain_type, value_of, text_at, is_short, Values, values_at, value_at}
 use Rattle.oso_read.specs.Text.{only_word}
 use Rattle.osl_valuetext.specs.Types.{type_at}
 use Rattle.oso_read.specs.Data.{meta_at}
@@ -43,7 +43,7 @@ use Rattle.osl_valuetext.proofs.Exact.{bytes_are, text_is}
 use Rattle.osl_valuetext.proofs.TypeTexts.{find_passes, typed, type_written, type_read}
 use Rattle.osl_valuetext.proofs.ValueWords.{MakesUp, IsText, text_written, text_read, values_written, values_read}
 use Rattle.oso_read.proofs.MadeUp.{makes_up_facts}
-use Rattle.oso_read.proofs.MetaTypes.{no_closure_array, type_has_values}
+use Rattle.oso_read.proofs.MetaTypes.{no_closure_array, type_is_plain}
 use Rattle.oso_read.proofs.Fields.{IsFront, dull_front, name_front, type_front, value_fronts}
 use Rattle.oso_read.proofs.Data.{IsData, IsBack, meta_back, meta_written, meta_read}
 use Rattle.oso_read.proofs.SaidLines.{IsNoHint, BeginsHint, backs_begin, fronts_begin, parts_are, says_parts, first_said}
@@ -300,7 +300,7 @@ unfolding value_at
 value_at_written ty v fits is texts =
     let at_own : option_map (value_of v.ty) (values_at Canonical text_at v.ty (value_words v.ty.base v.nums v.texts)) ≡ Some v =
     ap (option_map (value_of v.ty)) (values_written Canonical text_at IsText text_written v.ty.base v.ty.len v.nums v.texts is.makes texts) in
-    cond-true _ _ _ (type_has_values ty fits is.wanted) ∙ subst (λ (t : Ty). option_map (value_of t) (values_at Canonical text_at t (value_words v.ty.base v.nums v.texts)) ≡ Some v) is.same at_own
+    cond-true _ _ _ (type_is_plain ty fits is.wanted) ∙ subst (λ (t : Ty). option_map (value_of t) (values_at Canonical text_at t (value_words v.ty.base v.nums v.texts)) ≡ Some v) is.same at_own
 
 start_written : (class : Class) (ty : Ty) (value : Option Plain) → is_type ty ≡ true → is_value_of (has_value class ty) ty value ≡ true → start_spells value ≡ true
     → start_at class ty (start_words value) ≡ Some value
@@ -363,7 +363,7 @@ symbol_line_reads l leading symbol fits spells e =
 
 -- ---- the line of a symbol, as it was written
 
-one_word : (base : Base) (len : ℕ) (word : List ℕ) → word ≡ type_text (typed base len) → has_values (typed base len) ≡ true → type_words (typed base len) ≡ word ∷ []
+one_word : (base : Base) (len : ℕ) (word : List ℕ) → word ≡ type_text (typed base len) → is_plain_type (typed base len) ≡ true → type_words (typed base len) ≡ word ∷ []
 one_word Int len word is has = ap (λ (w : List ℕ). w ∷ []) (sym is)
 one_word Float len word is has = ap (λ (w : List ℕ). w ∷ []) (sym is)
 one_word Color len word is has = ap (λ (w : List ℕ). w ∷ []) (sym is)
@@ -408,7 +408,7 @@ record WasStart (words : Line) (value : Option Plain) : Type 0 where
 
 value_at_read : (ty : Ty) (words : Line) (v : Plain) → value_at Canonical ty words ≡ Some v → WasStart words (Some v)
 unfolding value_at
-value_at_read ty words v e = go (has_values ty) e
+value_at_read ty words v e = go (is_plain_type ty) e
   where
     from : (o : Option Values) → values_at Canonical text_at ty words ≡ o → option_map (value_of ty) o ≡ Some v → WasStart words (Some v)
     from (Some u) read h =

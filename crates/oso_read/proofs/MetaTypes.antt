@@ -9,7 +9,7 @@ use Rattle.osl_value.specs.declared.types.Base.TheVariants.{Int, Float, Color, P
 use Rattle.osl_value.specs.declared.types.Ty.{Ty}
 use Rattle.osl_value.specs.Types.{base_name, only, longest_array}
 use Rattle.osl_valuetext.specs.Words.{type_text}
-use Rattle.osl_valuetext.specs.Literals.{has_values}
+use Rattle.osl_valuetext.specs.Literals.{is_plain_type}
 use Rattle.osl_valuetext.specs.Types.{type_at}
 use Rattle.osl_valuetext.proofs.TypeTexts.{typed, type_written, type_read}
 use Rattle.oso_code.specs.Holding.{is_type, is_closure}
@@ -21,21 +21,21 @@ no_closure_array len fits =
     eqb-true len 0 (not-false (len == 0) (not-true (not (len == 0)) parts.1))
 
 -- a type that has values is a type, and a type that is no closure has values
-pub has_values_type : (base : Base) (len : ℕ) → has_values (typed base len) ≡ true → is_type (typed base len) ≡ true
-has_values_type Int len has = has
-has_values_type Float len has = has
-has_values_type Color len has = has
-has_values_type Point len has = has
-has_values_type Vector len has = has
-has_values_type Normal len has = has
-has_values_type Matrix len has = has
-has_values_type Str len has = has
-has_values_type Closure len has = let parts = and_parts (nat_le len longest_array) false has in absurd cc
+pub plain_is_type : (base : Base) (len : ℕ) → is_plain_type (typed base len) ≡ true → is_type (typed base len) ≡ true
+plain_is_type Int len has = has
+plain_is_type Float len has = has
+plain_is_type Color len has = has
+plain_is_type Point len has = has
+plain_is_type Vector len has = has
+plain_is_type Normal len has = has
+plain_is_type Matrix len has = has
+plain_is_type Str len has = has
+plain_is_type Closure len has = let parts = and_parts (nat_le len longest_array) false has in absurd cc
 
-pub type_has_values : (ty : Ty) → is_type ty ≡ true → not (is_closure ty) ≡ true → has_values ty ≡ true
-type_has_values ty fits other = and_from (nat_le ty.len longest_array) (not (is_closure ty)) (and_parts (nat_le ty.len longest_array) (not (is_closure ty && not (ty.len == 0))) fits).0 other
+pub type_is_plain : (ty : Ty) → is_type ty ≡ true → not (is_closure ty) ≡ true → is_plain_type ty ≡ true
+type_is_plain ty fits other = and_from (nat_le ty.len longest_array) (not (is_closure ty)) (and_parts (nat_le ty.len longest_array) (not (is_closure ty && not (ty.len == 0))) fits).0 other
 
-by_word : (base : Base) (len : ℕ) → bytes_eq (type_text (typed base len)) (base_name Closure) ≡ false → has_values (typed base len) ≡ true
+by_word : (base : Base) (len : ℕ) → bytes_eq (type_text (typed base len)) (base_name Closure) ≡ false → is_plain_type (typed base len) ≡ true
     → meta_type_at (type_text (typed base len)) ≡ Some (typed base len)
 unfolding meta_type_at
 by_word base len other has =
@@ -65,4 +65,4 @@ meta_type_read word ty e = go (bytes_eq word (base_name Closure)) refl e
     go true k h =
         let same : only Closure ≡ ty = cc in
         ((bytes_eq-Decides word (base_name Closure)).0 k ∙ ap type_text same, subst (λ (t : Ty). is_type t ≡ true) same refl)
-    go false k h = let is = type_read word ty h in (is.0, has_values_type ty.base ty.len is.1)
+    go false k h = let is = type_read word ty h in (is.0, plain_is_type ty.base ty.len is.1)
