@@ -23,6 +23,8 @@ mod stores;
 #[cfg(test)]
 mod strings;
 #[cfg(test)]
+mod value_texts;
+#[cfg(test)]
 mod values;
 #[cfg(test)]
 mod words;
