@@ -4,6 +4,7 @@ pub mod Each
 pub mod Escapes
 pub mod Exact
 pub mod Inside
+pub mod PairWords
 pub mod Pieces
 pub mod Plains
 pub mod Rounds

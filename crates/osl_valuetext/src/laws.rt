@@ -11,6 +11,7 @@ ghost use Rattle.osl_valuetext.specs.declared.number.Spelling.{Spelling};
 ghost use Rattle.osl_valuetext.specs.Words.{Line, type_text, string_text, number_text, value_words};
 ghost use Rattle.osl_valuetext.specs.Literals.{string_at, text_at, number_at, value_at};
 ghost use Rattle.osl_valuetext.specs.Types.{type_at};
+ghost use Rattle.osl_valuetext.specs.Identifiers.{Pair, pair_at, PairWord};
 ghost use Rattle.osl_valuetext.specs.Spells.{IsByte, StringWord, TextWord, are_bytes, is_text, TypeWord, Literal, ValueWords};
 
 use crate::number::Spelling;
@@ -26,6 +27,7 @@ pub fn meaning_is_spelling()
         → (number_at spelling base word ≡ Some n) ↔ Literal spelling base word n }
     ensures values { (spelling : Spelling) (ty : Ty) (words : Line) (v : Plain)
         → (value_at spelling ty words ≡ Some v) ↔ ((v.ty ≡ ty) × ValueWords spelling words v) }
+    ensures pairs { (word : List ℕ) (pair : Pair) → (pair_at word ≡ Some pair) ↔ PairWord word pair }
 {}
 
 /// What is written is read as the same, in each spelling.
