@@ -73,7 +73,12 @@ fn a_text_has_at_most_512_bytes(rt: HostRuntime) -> Result<(), Fail> {
     let longest = long_word(rt.alloc(), 512)?;
     assert!(rt; read_text(rt.alloc(), longest.as_slice()).is_ok());
     let longer = long_word(rt.alloc(), 513)?;
-    assert!(rt; matches!(read_text(rt.alloc(), longer.as_slice()), Err(Unread::Misspelled)));
+    assert!(rt;
+        matches!(
+            read_text(rt.alloc(), longer.as_slice()),
+            Err(Unread::Misspelled)
+        )
+    );
     assert!(rt; read_string(rt.alloc(), longer.as_slice()).is_ok());
     Ok(())
 }
@@ -139,7 +144,12 @@ static NUMBERS: [(Base, &[u8], Option<i64>, Option<i64>); 12] = [
     (Base::Float, b".5", None, Some(500_000_000)),
     (Base::Color, b"25e-2", None, Some(250_000_000)),
     (Base::Point, b"0.12345678949", None, Some(123_456_789)),
-    (Base::Matrix, b"-0.25", Some(-250_000_000), Some(-250_000_000)),
+    (
+        Base::Matrix,
+        b"-0.25",
+        Some(-250_000_000),
+        Some(-250_000_000),
+    ),
     (Base::Normal, b"+1", None, None),
 ];
 
@@ -162,7 +172,11 @@ static VALUES: [(&[u8], &[u8], Option<&[u8]>); 12] = [
     (b"float[2]", b"1\t 2e1", Some(b" 1 20")),
     (b"float[2]", b"1", None),
     (b"string", b"\"a b\"", Some(b" \"a b\"")),
-    (b"string[2]", b"\"\" \"\\\" \\000\"", Some(b" \"\" \"\\\" \\000\"")),
+    (
+        b"string[2]",
+        b"\"\" \"\\\" \\000\"",
+        Some(b" \"\" \"\\\" \\000\""),
+    ),
     (b"string", b"\"a\" \"b\"", None),
     (b"string", b"7", None),
 ];

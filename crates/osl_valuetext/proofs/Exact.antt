@@ -1,7 +1,7 @@
 -- Readers against what words spell: both ways.
-use Rattle.std.proofs.Common.{◌≡◌, ℕ, suc, ◌≤◌, Bool, true, false, ◌&&◌, ◌==◌, cond, eqb, List, [], ◌∷◌, length, ℤ, Option, Some, None, refl, sym, ap, subst, ◌∙◌, arith}
+use Rattle.std.proofs.Common.{◌≡◌, ℕ, suc, Bool, true, false, cond, eqb, List, [], ◌∷◌, length, ℤ, Option, Some, None, refl, sym, ap, subst, ◌∙◌, arith}
 use Rattle.std.specs.Prelude.{option_map, nat_lt}
-use Rattle.std.specs.List.{All, AllByRecursion, list_all}
+use Rattle.std.specs.List.{AllByRecursion, list_all}
 use Rattle.std.proofs.lemmas.Bool.{and_parts, eq-eqb, cond-true, ltb-true, leb-true}
 use Rattle.std.proofs.lemmas.List.{nil_from_length}
 use Rattle.std.proofs.lemmas.List.Elements.{All-from_recursion, recursion_from_All}
@@ -9,10 +9,10 @@ use Rattle.osl_value.specs.declared.types.Base.{Base}
 use Rattle.osl_value.specs.declared.types.Base.TheVariants.{Int, Float, Color, Point, Vector, Normal, Matrix, Str, Closure}
 use Rattle.osl_value.specs.declared.types.Ty.{Ty}
 use Rattle.osl_value.specs.Plain.{Plain, IsNumberOf, IsPlain}
-use Rattle.osl_value.specs.Types.{same_base, number_count, text_count, longest_array, longest_text}
+use Rattle.osl_value.specs.Types.{same_base, number_count, text_count, longest_text}
 use Rattle.osl_valuetext.specs.declared.number.Spelling.{Spelling}
 use Rattle.osl_valuetext.specs.declared.number.Spelling.TheVariants.{Canonical, Free}
-use Rattle.osl_valuetext.specs.Words.{Line, type_text, string_text, number_text, value_words}
+use Rattle.osl_valuetext.specs.Words.{Line, value_words}
 use Rattle.osl_valuetext.specs.Literals.{◌>>=◌, each, number_at, string_at, text_at, is_short, is_plain_type, value_of, Values, numbers_at, strings_at, values_at, value_at}
 use Rattle.osl_valuetext.specs.Types.{type_at}
 use Rattle.osl_valuetext.specs.Spells.{IsByte, StringWord, TextWord, are_bytes, is_text, TypeWord, Literal, OneForOne, Spelled, ValueWords}

@@ -1,5 +1,5 @@
 -- What is read as a value's numbers and strings makes up a value.
-use Rattle.std.proofs.Common.{◌≡◌, ℕ, suc, ◌≤◌, Bool, true, false, ◌&&◌, not, cond, eqb, List, [], ◌∷◌, length, ℤ, Option, Some, None, refl, sym, ap, subst, ◌∙◌, arith, rules, tests}
+use Rattle.std.proofs.Common.{◌≡◌, ℕ, suc, ◌≤◌, Bool, true, false, not, cond, eqb, List, [], ◌∷◌, length, ℤ, Option, Some, None, refl, sym, ap, subst, ◌∙◌, arith}
 use Rattle.std.specs.Prelude.{FitsSigned, IfSome, nat_le, option_map, filter}
 use Rattle.std.specs.Int.{w32}
 use Rattle.std.specs.List.{AllByRecursion}
@@ -17,7 +17,7 @@ use Rattle.osl_decimal.specs.Decimal.{int_of, fx_of}
 use Rattle.osl_valuetext.specs.declared.number.Spelling.{Spelling}
 use Rattle.osl_valuetext.specs.declared.number.Spelling.TheVariants.{Canonical, Free}
 use Rattle.osl_valuetext.specs.Words.{Line}
-use Rattle.osl_valuetext.specs.Literals.{◌>>=◌, each, spelled, int_at, fx_at, int_word, fx_word, number_at, text_at, is_plain_type, value_of, value_at, Values, numbers_at, strings_at, values_at}
+use Rattle.osl_valuetext.specs.Literals.{◌>>=◌, each, spelled, int_at, fx_at, int_word, fx_word, number_at, text_at, is_plain_type, Values, numbers_at, strings_at, values_at}
 use Rattle.osl_valuetext.proofs.Spellings.{int_in_range, fx_in_range}
 
 -- all pass a test that always holds

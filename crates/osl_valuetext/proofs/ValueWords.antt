@@ -1,19 +1,16 @@
 -- The words of a value: what is written is read, and what is read was written.
-use Rattle.std.proofs.Common.{◌≡◌, ℕ, ◌≤◌, Bool, true, false, ◌&&◌, ◌==◌, cond, eqb, List, [], ◌∷◌, length, map, ℤ, pos, negsuc, Option, Some, None, refl, sym, ap, subst, ◌∙◌, append-nil, arith, rules, tests}
-use Rattle.std.specs.Prelude.{FitsSigned, option_map}
-use Rattle.std.specs.Int.{w32}
-use Rattle.std.specs.List.{list_all, AllByRecursion}
-use Rattle.std.proofs.lemmas.Bool.{and_parts, eq-eqb, eqb-true, cond-true, le-leb, leb-true}
-use Rattle.std.proofs.lemmas.Int.{ints}
+use Rattle.std.proofs.Common.{◌≡◌, ℕ, ◌≤◌, Bool, true, false, cond, eqb, List, [], length, map, ℤ, Option, Some, None, refl, sym, ap, subst, ◌∙◌, append-nil, arith}
+use Rattle.std.specs.Prelude.{option_map}
+use Rattle.std.specs.List.{AllByRecursion}
+use Rattle.std.proofs.lemmas.Bool.{eq-eqb, cond-true, le-leb, leb-true}
 use Rattle.std.proofs.lemmas.List.{length-map, nil_from_length}
 use Rattle.osl_value.specs.declared.types.Base.{Base}
 use Rattle.osl_value.specs.declared.types.Base.TheVariants.{Int, Float, Color, Point, Vector, Normal, Matrix, Str, Closure}
 use Rattle.osl_value.specs.declared.types.Ty.{Ty}
-use Rattle.osl_value.specs.Numbers.{IsInRange}
 use Rattle.osl_value.specs.Plain.{IsNumberOf}
 use Rattle.osl_value.specs.Types.{same_base, number_count, text_count, longest_text}
 use Rattle.osl_valuetext.specs.declared.number.Spelling.{Spelling}
-use Rattle.osl_valuetext.specs.declared.number.Spelling.TheVariants.{Canonical, Free}
+use Rattle.osl_valuetext.specs.declared.number.Spelling.TheVariants.{Canonical}
 use Rattle.osl_valuetext.specs.Words.{Line, number_text, string_text, value_words}
 use Rattle.osl_valuetext.specs.Literals.{◌>>=◌, each, number_at, string_at, text_at, is_short, Values, numbers_at, strings_at, values_at}
 use Rattle.osl_valuetext.proofs.Plains.{bound, counted, each_all}

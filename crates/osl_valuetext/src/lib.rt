@@ -25,4 +25,6 @@ pub use types::{is_plain_type, read_type};
 pub use unread::Unread;
 pub use values::{read_counted_numbers, read_value};
 pub use words::{Parting, split, split_words};
-pub use write::{write_decimal, write_number, write_numbers, write_string, write_type, write_value};
+pub use write::{
+    write_decimal, write_number, write_numbers, write_string, write_type, write_value,
+};

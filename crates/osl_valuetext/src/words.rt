@@ -65,11 +65,7 @@ fn push_piece<'a>(parting: Parting, piece: &'a [u8], into: &mut Vec<&'a [u8]>) -
 
 /// Appends the words or the fields of a text: its pieces between the bytes that part it, outside strings and braces. Words
 /// without bytes are left out.
-pub fn split<'a>(
-    parting: Parting,
-    text: &'a [u8],
-    into: &mut Vec<&'a [u8]>,
-) -> Result<(), Memory>
+pub fn split<'a>(parting: Parting, text: &'a [u8], into: &mut Vec<&'a [u8]>) -> Result<(), Memory>
     ensures { OnOk result (spoken into.new.items
         ≡ spoken into.old.items ++ filter (keeps parting) (pieces (parts parting) Open text.now)) }
 {

@@ -11,8 +11,8 @@ ghost use Rattle.osl_valuetext.specs.Unread.{Tells};
 
 use crate::hints::{Said, lacks_metadata};
 use crate::jumps::decimals_at;
-use oso_code::name::is_name;
 use osl_valuetext::Unread;
+use oso_code::name::is_name;
 use std::alloc::Global;
 
 /// An operation's name, the names of its arguments, and its jumps.
