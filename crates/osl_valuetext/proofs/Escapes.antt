@@ -29,7 +29,7 @@ pub record StandsPlain (c : ℕ) : Type 0 where
   pub no_quote : (c == 34) ≡ false
   pub no_backslash : (c == 92) ≡ false
 
--- the letter behind `\` that stands for a byte
+-- the letter after `\` that stands for a byte
 pub record IsLetterOf (c letter : ℕ) : Type 0 where
   pub means : escaped_byte letter ≡ Some c
   pub from : 32 ≤ letter
@@ -158,7 +158,7 @@ byte_first : (byte : ℕ) (o : Option (List ℕ)) (bytes : List ℕ) → with_by
 byte_first byte (Some more) bytes e = (more, refl, cc)
 byte_first byte None bytes e = absurd cc
 
--- a byte that was read, and what is read behind it
+-- a byte that was read, and what is read after it
 one_read : (p : Pending) (c byte : ℕ) (cs bytes : List ℕ) → pending_text p ++ c ∷ [] ≡ escape byte → IsByte byte → Written Nothing cs
     → with_byte byte (inside_at Nothing cs) ≡ Some bytes → IsReadOf p (c ∷ cs) bytes
 unfolding pending_text

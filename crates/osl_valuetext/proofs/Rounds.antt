@@ -17,7 +17,7 @@ round first last (x ∷ xs) long at_first at_last =
     let here : get_or xs (length xs - 1) 0 ≡ last = ap (λ (k : ℕ). get_or (x ∷ xs) k 0) place ∙ at_last in
     ap (λ (n : ℕ). n ∷ xs) at_first ∙ ap (λ (t : List ℕ). first ∷ t) (before_last last xs (omega arith) here ∙ ap (λ (k : ℕ). take k xs ++ last ∷ []) upto)
 
--- what stands between two fronts and the last byte
+-- what is between two fronts and the last byte
 pub between : (front : List ℕ) (last : ℕ) (text : List ℕ) → length front < length text → take (length front) text ≡ front → slice_index text (length text - 1) ≡ last
     → text ≡ front ++ (take (length text - (length front + 1)) (drop (length front) text) ++ last ∷ [])
 between front last text long same at_last =

@@ -7,7 +7,7 @@ use Rattle.osl_valuetext.specs.declared.place.Place.{Place}
 use Rattle.osl_valuetext.specs.declared.place.Place.TheVariants.{Open}
 use Rattle.osl_valuetext.specs.Splitting.{next, is_open, pieces}
 
--- the place behind a run of bytes, if none of them parts
+-- the place after a run of bytes, if none of them parts
 abbrev pub run : (ℕ → Bool) → Place → List ℕ → Option Place
 run test place [] = Some place
 run test place (c ∷ cs) = cond (is_open place && test c) None (run test (next place c) cs)
@@ -53,7 +53,7 @@ pieces_only test p q (x ∷ xs) h = go (is_open p && test x) (pieces_only test (
 abbrev pub Holds : (ℕ → Bool) → List ℕ → Type 0
 Holds test word = run test Open word ≡ Some Open
 
--- words behind marks are the pieces
+-- words after marks are the pieces
 pub pieces_joined : (test : ℕ → Bool) (mark : ℕ) (word : List ℕ) (words : List (List ℕ)) → test mark ≡ true
     → Holds test word → AllByRecursion (Holds test) words → pieces test Open (word ++ behind mark words) ≡ word ∷ words
 pieces_joined test mark word [] parts here all = ap (pieces test Open) (append-nil word) ∙ pieces_only test Open Open word here

@@ -129,7 +129,7 @@ typed base len = record { base = base; len = len }
 abbrev checked : Ty → Option Ty
 checked ty = cond (is_plain_type ty) (Some ty) None
 
--- the type of a name with a length behind it
+-- the type of a name with a length after it
 abbrev made_of : List ℕ → List ℕ → Option Ty
 made_of name rest = base_named name >>= λ base. length_or_none rest >>= λ len. checked (typed base len)
 

@@ -64,7 +64,7 @@ number_at spelling base word = if same_base base Int then int_word spelling word
 abbrev pub is_plain : ℕ → Bool
 is_plain c = (nat_le 32 c && nat_le c 126) && not ((c == 34) || (c == 92))
 
--- the byte that one letter stands for behind `\`
+-- the byte that one letter stands for after `\`
 abbrev pub escaped_byte : ℕ → Option ℕ
 escaped_byte c =
     if (c == 34) || (c == 92) then Some c
@@ -91,7 +91,7 @@ abbrev pub escaped_step : ℕ → Option ℕ → Step
 escaped_step c None = Waits (OneDigit c)
 escaped_step c (Some byte) = Gives byte
 
--- what a byte of a string gives behind what is pending
+-- what a byte of a string gives after what is pending
 abbrev pub step : Pending → ℕ → Option Step
 step Nothing c = if c == 92 then Some (Waits Backslash) else (if is_plain c then Some (Gives c) else None)
 step Backslash c = Some (escaped_step c (escaped_byte c))
@@ -112,7 +112,7 @@ ends Backslash = None
 ends (OneDigit c) = None
 ends (TwoDigits c d) = None
 
--- the bytes that the inside of a string stands for, behind what is pending
+-- the bytes that the inside of a string stands for, after what is pending
 abbrev pub inside_at : Pending → List ℕ → Option (List ℕ)
 inside_at pending [] = ends pending
 inside_at pending (c ∷ cs) = goes_on (step pending c) (λ next. inside_at next cs)

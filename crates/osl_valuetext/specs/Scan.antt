@@ -12,7 +12,7 @@ abbrev pub parts : Parting → ℕ → Bool
 parts Blanks c = is_blank c
 parts Commas c = is_comma c
 
--- where a piece ends of which these bytes stand at `at`, the first at this place
+-- where a piece ends whose bytes begin at `at`, the first at this place
 abbrev pub piece_end : (ℕ → Bool) → Place → ℕ → List ℕ → ℕ
 piece_end test place at [] = at
 piece_end test place at (c ∷ cs) = if is_open place && test c then at else piece_end test (next place c) (at + 1) cs

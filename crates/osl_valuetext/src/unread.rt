@@ -4,7 +4,7 @@ use std::alloc::{AllocError, AllocFailed};
 /// Why a word was not read.
 #[derive(Clone, Copy, Debug, PartialEq, Eq)]
 pub enum Unread {
-    /// Out of memory.
+    /// An allocation failed.
     Memory,
     /// The word is not what is wanted.
     Misspelled,

@@ -108,7 +108,7 @@ pub told_again : (n : ℕ) (ls : List Line) → AllByRecursion IsLine ls → map
 unfolding told_from
 told_again n ls all = ap (λ (ts : List (List ℕ)). said_of (filter (λ (l : Numbered). means l.line) (numbered n ts))) (lines_again ls all) ∙ numbered_says n ls all
 
--- ---- behind the last line feed
+-- ---- after the last line feed
 
 pub ends_in_feed : (text : List ℕ) → means (words (after_last is_line_feed (text ++ 10 ∷ []))) ≡ false
 unfolding words

@@ -320,7 +320,7 @@ start_fronts wanted ty (Some v) is spells =
     let parts = value_is wanted ty v is in
     value_fronts v.ty.base v.nums v.texts parts.1.makes.fit (all_text_bytes v.texts (all_pass IsText is_text text_is v.texts spells))
 
--- the words of a symbol's line behind its class, up to its metadata
+-- the words of a symbol's line after its class, up to its metadata
 abbrev pub symbol_rest : Symbol → Line
 symbol_rest s = type_words s.ty ++ (s.name ∷ start_words s.value)
 

@@ -63,7 +63,7 @@ run_dull test none (c ∷ cs) all =
     ap (λ (b : Bool). cond b None (run test (next Open c) cs)) (none c all.0)
     ∙ ap (λ (p : Place). run test p cs) stays ∙ run_dull test none cs all.1
 
--- the place behind bytes that do not leave braces
+-- the place after bytes that do not leave braces
 abbrev pub within : Place → List ℕ → Option Place
 within place [] = Some place
 within place (c ∷ cs) = cond (is_open (next place c)) None (within (next place c) cs)

@@ -221,7 +221,7 @@ no_lines : (before : List Numbered) (last : Numbered) → [] ≡ before ++ last 
 no_lines [] last e = cc
 no_lines (l ∷ before) last e = cc
 
--- The last line that means something has its line feed exactly where nothing behind the last line feed means something.
+-- The last line that means something has its line feed exactly where nothing after the last line feed means something.
 pub ended_exactly : (bytes : List ℕ) (before : List Numbered) (last : Numbered) → told bytes ≡ before ++ last ∷ []
     → is_ended bytes last.number ≡ not (means (words (after_last is_line_feed bytes)))
 unfolding told_from

@@ -1,4 +1,4 @@
--- Whether text stands behind a line.
+-- Whether text stands after a line.
 use Rattle.std.proofs.Common.{◌≡◌, ℕ, ◌+◌, ◌-◌, ◌<◌, Bool, true, false, not, ◌||◌, ◌==◌, nat_lt, List, [], ◌∷◌, length, Option, Some, None, refl, sym, ap, ◌∙◌, arith, rules, tests}
 use Rattle.std.specs.Prelude.{slice_index}
 use Rattle.std.specs.List.{position}
@@ -16,7 +16,7 @@ has_lines bytes some = go (position is_line_feed bytes) refl
     go (Some at) h = omega (arith, ap length (at_line_feed bytes at h))
     go None h = omega (arith, ap length (no_line_feed bytes h some))
 
--- the line of a number is not the last, where text stands behind it
+-- the line of a number is not the last, where text stands after it
 text_behind : (n next : ℕ) (text rest : List ℕ) → next ≡ n + 1 → next + length (lines rest) ≡ line_count text + 1 → nat_lt n (line_count text) ≡ not (length rest == 0)
 text_behind n next text [] e f = let past : nat_lt n (line_count text) ≡ false = search (rules, tests) in past
 text_behind n next text (c ∷ rest) e f =
@@ -26,7 +26,7 @@ text_behind n next text (c ∷ rest) e f =
     let left : (length (c ∷ rest) == 0) ≡ false = search (rules, tests) in
     is ∙ ap (λ (b : Bool). not b) (sym left)
 
--- a line behind which text stands has its line feed
+-- a line after which text stands has its line feed
 pub ended_before_text : (text rest : List ℕ) (o : Option ℕ) (next : ℕ) (last : Bool) → last ≡ (length rest == 0) → last ≡ false → ForSome o (λ n. next ≡ n + 1)
     → next + length (lines rest) ≡ line_count text + 1 → IfSome o (λ n. not last ≡ is_ended text n)
 ended_before_text text rest None next last is behind here after = tt

@@ -24,7 +24,7 @@ position_map f test keys =
     ap (λ (n : ℕ). cond (ltb n (length keys)) (Some n) None) (first_map f test keys)
     ∙ ap (λ (m : ℕ). cond (ltb (position_or_len test (map f keys)) m) (Some (position_or_len test (map f keys))) None) (sym (length-map keys f))
 
--- a key that is new goes behind the others
+-- a key that is new goes after the others
 pub pushed_map : {K : Type 0} (f : K → List ℕ) (old new : List K) (key : K) (name : List ℕ) (found : Bool) → found ≡ false
     → new ≡ cond found old (old ++ key ∷ []) → f key ≡ name → map f new ≡ map f old ++ name ∷ []
 pushed_map f old new key name found absent grown named =
@@ -35,7 +35,7 @@ pub taken : (symbols : List Symbol) (name : List ℕ) → list_any (bytes_eq nam
 taken [] name = refl
 taken (s ∷ symbols) name = ap (λ (b : Bool). bytes_eq name s.name || b) (taken symbols name)
 
--- ---- one more symbol behind others
+-- ---- one more symbol after others
 
 pub names_more : (symbols : List Symbol) (symbol : Symbol) (names more : List (List ℕ)) (name : List ℕ)
     → names ≡ names_of symbols → more ≡ names ++ name ∷ [] → name ≡ symbol.name → more ≡ names_of (symbols ++ symbol ∷ [])

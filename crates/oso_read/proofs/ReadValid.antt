@@ -125,7 +125,7 @@ all_valid head symbols body fits are filled main none =
       limits = limits_fit raw are filled.few ranges.1;
     }
 
--- what is read up to `end`, and behind it
+-- what is read up to `end`, and after it
 abbrev pub closing : List ℕ → Opened → Declared → Filled → Result Raw Fault
 closing bytes o d f = closed bytes (made o.head d.symbols f.body) f.body f.rest
 

@@ -39,7 +39,7 @@ module _ (last : Numbered) (kind : ShaderKind) (symbols : List Symbol) (fit : Fi
   abbrev body_with : List Start → List Op → List ℕ → Body
   body_with starts ops lines = record { starts = starts; ops = ops; lines = lines }
 
-  -- lines that are read as ops behind those of a body
+  -- lines that are read as ops after those of a body
   pub record OpsRead (body : Body) (ops : List Op) (ls : List Numbered) (ws : List Line) : Type 0 where
     pub lines : List ℕ
     pub rest : List Numbered
@@ -93,7 +93,7 @@ module _ (last : Numbered) (kind : ShaderKind) (symbols : List Symbol) (fit : Fi
   abbrev line_made : Body → Numbered → Saying → Bool → Result Body OsoKind
   line_made body l s code = if code then code_read symbols body s else op_read kind symbols body l.number s
 
-  -- a line that is not `end` and makes a body, and those behind it
+  -- a line that is not `end` and makes a body, and those after it
   goes_to : (body : Body) (l : Numbered) (ls : List Numbered) (s : Saying) (code : Bool) (after : Body) → is_end_line l.line ≡ false → saying l.line ≡ Some s → is_code_line l.line ≡ code
       → line_made body l s code ≡ Ok after → filled_from kind symbols body (l ∷ ls) ≡ filled_from kind symbols after ls
   unfolding filled_from
@@ -146,7 +146,7 @@ module _ (last : Numbered) (kind : ShaderKind) (symbols : List Symbol) (fit : Fi
   abbrev code_words : Option ℕ → Line
   code_words owner = codes "code" ∷ section_name symbols owner ∷ []
 
-  -- lines that are read as a section behind those of a body
+  -- lines that are read as a section after those of a body
   pub record SectionRead (body : Body) (owner : Option ℕ) (ops : List Op) (ls : List Numbered) (ws : List Line) : Type 0 where
     pub lines : List ℕ
     pub rest : List Numbered

@@ -82,7 +82,7 @@ declaring bytes o = declared_from [] o.rest >>= filling bytes o
 abbrev the_end : Line
 the_end = codes "end" ∷ []
 
--- what lines say that are behind each other
+-- what lines say, one after the other
 joined : (symbols body : List Line) (head : Line) (all middle rest last : List (Option Line)) → all ≡ Some header ∷ Some head ∷ middle → middle ≡ map Some symbols ++ rest
     → rest ≡ map Some body ++ last → last ≡ Some the_end ∷ [] → all ≡ map Some (header ∷ head ∷ (symbols ++ body ++ the_end ∷ []))
 joined symbols body head all middle rest last a b c d =

@@ -94,7 +94,7 @@ opened_reads last end head (first ∷ second ∷ rest) ws name fit spell h =
 
 -- ---- symbols
 
--- each fits behind those before it, with room, and has a text
+-- each fits after those before it, with room, and has a text
 abbrev pub AllFit : List Symbol → List Symbol → Type 0
 AllFit before [] = Unit {0}
 AllFit before (s ∷ symbols) = IsTrue (fits_behind before s) × IsTrue (has_room before s.ty) × IsTrue (symbol_spells s) × AllFit (before ++ s ∷ []) symbols

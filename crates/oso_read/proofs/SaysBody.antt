@@ -211,7 +211,7 @@ module _ (kind : ShaderKind) (symbols : List Symbol) where
         ends = ends_later l ls f.rest rest.ends;
       }
 
-  -- a line that made something, and what is read behind it
+  -- a line that made something, and what is read after it
   record Read (body : Body) (l : Numbered) (ls : List Numbered) (f : Filled) : Type 0 where
     heard : Saying
     is : saying l.line ≡ Some heard

@@ -99,7 +99,7 @@ module _ (bytes : List ℕ) (raw : Raw) (valid : IsValid raw) (last : Numbered) 
       let nothing = no_more last (next ∷ ls) (said_rest last l (next ∷ ls) end_words [] h) in
       absurd (cc nothing)
 
-  -- the lines behind symbols begin the body
+  -- the lines after symbols begin the body
   body_words : BodyWords (flat_map (section_lines raw) raw.sections ++ end_words ∷ [])
   body_words = by raw.sections (all_at (λ s. owner_fits raw.symbols s.param ≡ true) raw.sections (λ k s is. (valid_section raw valid k s is).owner))
     where

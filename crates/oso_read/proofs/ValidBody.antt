@@ -138,11 +138,11 @@ module _ (kind : ShaderKind) (symbols : List Symbol) where
       by true e = code_filled body s after filled e
       by false e = op_line_filled body l.number s after filled e
 
-  -- a line and those behind it, up to `end`
+  -- a line and those after it, up to `end`
   abbrev lines_made : Body → Numbered → List Numbered → Bool → Result Filled Fault
   lines_made body l ls ends = if ends then Ok (record { body = body; rest = l ∷ ls }) else (at_line l.number (body_line kind symbols body l) >>= λ after. filled_from kind symbols after ls)
 
-  -- a line that made something, and what is read behind it
+  -- a line that made something, and what is read after it
   pub record Reads (body : Body) (l : Numbered) (ls : List Numbered) (f : Filled) : Type 0 where
     pub said : Saying
     pub after : Body

@@ -27,7 +27,7 @@ last_is start (next ∷ starts) =
 
 -- ---- sections in order
 
--- each has an owner that fits and follows the one before it, and none begins behind `end`
+-- each has an owner that fits and follows the one before it, and none begins after `end`
 abbrev pub Rises : List Symbol → Start → List Start → ℕ → Type 0
 Rises symbols start [] end = IsTrue (owner_fits symbols start.owner) × (start.op ≤ end)
 Rises symbols start (next ∷ starts) end =
@@ -121,14 +121,14 @@ owner_there start (next ∷ starts) end k lt = by (nat_lt k next.op) (owner_ther
     by true later = refl
     by false later = later
 
--- an op behind all is in the last one
+-- an op after all is in the last one
 pub owner_last : (symbols : List Symbol) (start : Start) (starts : List Start) (end : ℕ) → Rises symbols start starts end → owner_in start starts end ≡ (last_of start starts).owner
 owner_last symbols start [] end rises = refl
 owner_last symbols start (next ∷ starts) end rises =
     ap (λ b. if b then start.owner else owner_in next starts end) (le-ltb end next.op (rises_end symbols next starts end rises.3))
     ∙ owner_last symbols next starts end rises.3
 
--- one that begins behind an op changes nothing for it
+-- one that begins after an op changes nothing for it
 pub owner_begun : (start : Start) (starts : List Start) (new : Start) (k : ℕ) → k < new.op → owner_in start (starts ++ new ∷ []) k ≡ owner_in start starts k
 owner_begun start [] new k lt = ap (λ b. if b then start.owner else new.owner) (lt-ltb k new.op lt)
 owner_begun start (next ∷ starts) new k lt = ap (λ owner. if nat_lt k next.op then start.owner else owner) (owner_begun next starts new k lt)

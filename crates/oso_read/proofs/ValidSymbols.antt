@@ -1,4 +1,4 @@
--- The symbols that are read fit, each behind those before it.
+-- The symbols that are read fit, each after those before it.
 use Rattle.std.proofs.Common.{◌≡◌, ℕ, zero, suc, ◌+◌, ◌<◌, ◌≤◌, Bool, true, false, ⊎_elim, List, [], ◌∷◌, ◌++◌, length, Some, Result, Ok, refl, sym, ap, ◌∙◌, subst, arith}
 use Rattle.std.specs.Prelude.{IsTrue, if◌then◌else◌, nat_le, nat_lt, slice_get}
 use Rattle.std.specs.Option.{ok_or}
@@ -19,7 +19,7 @@ use Rattle.oso_read.specs.SymbolNames.{has_room}
 use Rattle.oso_read.specs.Reading.{heard, added, symbol_added, Declared, begins_body, declared_from}
 use Rattle.oso_read.proofs.Passing.{some_of, ok_of, goes_on, line_gave, hears, holds}
 
--- each fits behind those before it, and they pass no limit
+-- each fits after those before it, and they pass no limit
 pub record AreSymbols (symbols : List Symbol) : Type 0 where
   pub fit : (k : ℕ) (symbol : Symbol) → slice_get symbols k ≡ Some symbol → IsTrue (symbol_at_fits symbols k symbol)
   pub few : length symbols ≤ most_symbols
@@ -86,7 +86,7 @@ line_are before s after are h =
     let read = goes_on (ok_or (symbol_at s) kinds.Line) (added before) after h in
     added_are before read.value after are read.rest
 
--- what is read of lines is symbols behind those that there are, and the rest begins the body
+-- what is read of lines is symbols after those that there are, and the rest begins the body
 abbrev pub BeginsBody : List Numbered → Type 0
 BeginsBody [] = Unit {0}
 BeginsBody (l ∷ ls) = IsTrue (begins_body l.line)

@@ -11,11 +11,11 @@ use Rattle.osl_valuetext.specs.Splitting.{next, is_open}
 abbrev pub begins_hint : List ℕ → Bool
 begins_hint word = slice_index word 0 == 37
 
--- what stands behind the `%`, as far as a name goes
+-- what is after the `%`, as far as a name goes
 abbrev pub hint_name : List ℕ → List ℕ
 hint_name word = take_while continues_name (drop 1 word)
 
--- The first `}` outside strings, behind a byte at this place, is the last byte.
+-- The first `}` outside strings, after a byte at this place, is the last byte.
 abbrev pub closes : Place → List ℕ → Bool
 closes place [] = false
 closes place (c ∷ cs) = if is_open (next place c) then length cs == 0 else closes (next place c) cs
@@ -40,7 +40,7 @@ pub record Saying : Type 0 where
 abbrev pub word_count : Line → ℕ
 word_count line = prefix_len (λ word. not (begins_hint word)) line
 
--- what a line says; none where a word stands behind a hint, or a hint is not of its form
+-- what a line says; none where a word stands after a hint, or a hint is not of its form
 unfoldable pub saying : Line → Option Saying
 saying line =
     if list_all is_hint (drop (word_count line) line)

@@ -6,7 +6,7 @@ use Rattle.oso_read.specs.declared.reader.Reader.{Reader}
 use Rattle.oso_read.specs.Text.{Numbered, told_from}
 use Rattle.osl_valuetext.specs.Scan.{spoken}
 
--- a line, if there is one, and those behind it
+-- a line, if there is one, and those after it
 abbrev pub with_line : Option ℕ → Line → List Numbered → List Numbered
 with_line None line rest = []
 with_line (Some number) line rest = record { number = number; line = line } ∷ rest

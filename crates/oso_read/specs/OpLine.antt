@@ -28,15 +28,15 @@ abbrev pub code_words : Line → Option (List ℕ)
 code_words [] = None
 code_words (code ∷ words) = only_word words >>= λ name. if is_name name then Some name else None
 
--- the name behind `code`
+-- the name after `code`
 unfoldable pub code_at : Saying → Option (List ℕ)
 code_at s = if length s.metadata == 0 then code_words s.words else None
 
--- nothing stands behind `end`
+-- nothing stands after `end`
 unfoldable pub is_end : Saying → Bool
 is_end s = (length s.metadata == 0) && (length s.words == 1)
 
--- which of the three a line behind the symbols is, by its first word
+-- which of the three a line after the symbols is, by its first word
 abbrev pub begins_with : List ℕ → Line → Bool
 begins_with first [] = false
 begins_with first (word ∷ words) = bytes_eq word first

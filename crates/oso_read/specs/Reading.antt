@@ -42,7 +42,7 @@ abbrev pub says_header : Option Saying → Bool
 says_header None = false
 says_header (Some s) = (length s.metadata == 0) && pointwise bytes_eq s.words header
 
--- the lines behind the header; `end` is the number of the line after the last
+-- the lines after the header; `end` is the number of the line after the last
 unfoldable pub headed : ℕ → List Numbered → Result (List Numbered) Fault
 headed end [] = Err (fault kinds.Header end)
 headed end (l ∷ ls) = if says_header (saying l.line) then Ok ls else Err (fault kinds.Header l.number)
@@ -51,7 +51,7 @@ pub record Opened : Type 0 where
   pub head : Head
   pub rest : List Numbered
 
--- the kind and the name, and the lines behind them
+-- the kind and the name, and the lines after them
 unfoldable pub named_from : ℕ → List Numbered → Result Opened Fault
 named_from end [] = Err (fault kinds.Header end)
 named_from end (l ∷ ls) =
@@ -63,13 +63,13 @@ opened end lines = headed end lines >>= named_from end
 
 -- ---- symbols
 
--- the symbols with one more behind them
+-- the symbols with one more after them
 abbrev pub added : List Symbol → Symbol → Result (List Symbol) OsoKind
 added before symbol =
     holding (fits_behind before symbol) kinds.Symbol symbol
     >>= λ symbol. holding (has_room before symbol.ty) kinds.Limit (before ++ symbol ∷ [])
 
--- the symbols with that of a line behind them
+-- the symbols with that of a line after them
 unfoldable pub symbol_added : List Symbol → Saying → Result (List Symbol) OsoKind
 symbol_added before s = ok_or (symbol_at s) kinds.Line >>= added before
 
@@ -80,7 +80,7 @@ pub record Declared : Type 0 where
 abbrev pub begins_body : Line → Bool
 begins_body line = is_code_line line || is_end_line line
 
--- symbols up to the first `code` or `end`, behind these
+-- symbols up to the first `code` or `end`, after these
 unfoldable pub declared_from : List Symbol → List Numbered → Result Declared Fault
 declared_from before [] = Ok (record { symbols = before; rest = [] })
 declared_from before (l ∷ ls) =
@@ -118,7 +118,7 @@ abbrev pub may_follow : Option Start → Option ℕ → Bool
 may_follow None owner = true
 may_follow (Some start) owner = owner_follows start.owner owner
 
--- a section of this owner behind those that have begun
+-- a section of this owner after those that have begun
 abbrev pub section_begun : List Symbol → Body → Option ℕ → Result Body OsoKind
 section_begun symbols body owner =
     holding (owner_fits symbols owner && may_follow (last_start body.starts) owner) kinds.Op
@@ -142,7 +142,7 @@ op_of symbols w =
 abbrev pub owner_now : Body → Option ℕ
 owner_now body = owner_of_start (last_start body.starts)
 
--- an op behind the others, from a line of this number
+-- an op after the others, from a line of this number
 abbrev pub op_added : ShaderKind → List Symbol → Body → ℕ → Op → Result Body OsoKind
 op_added kind symbols body number op =
     holding (op_fits kind symbols (owner_now body) op) kinds.Op op
@@ -213,7 +213,7 @@ abbrev pub nothing_behind : List Numbered → Result (Unit {0}) Fault
 nothing_behind [] = Ok tt
 nothing_behind (l ∷ ls) = Err (fault kinds.Line l.number)
 
--- `end` with its line feed, and nothing behind it that means something
+-- `end` with its line feed, and nothing after it that means something
 unfoldable pub ended : List ℕ → Body → List Numbered → Result (Unit {0}) Fault
 ended bytes body [] = Err (fault kinds.Line (line_count bytes + 1))
 ended bytes body (l ∷ ls) =

@@ -56,7 +56,7 @@ pub record Typed : Type 0 where
   pub ty : Ty
   pub rest : Line
 
--- `closure` and `color` are two words; a type is what stands there and what follows it
+-- `closure` and `color` are two words; a type is what is there and what follows it
 abbrev pub closure_words : Line → Option Typed
 closure_words [] = None
 closure_words (word ∷ words) = if bytes_eq word (codes "color") then Some (record { ty = only Closure; rest = words }) else None

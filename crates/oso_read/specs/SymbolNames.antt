@@ -1,4 +1,4 @@
--- The names of symbols, and the room behind them.
+-- The names of symbols, and the room after them.
 use Rattle.std.specs.Prelude.{ℕ, ◌+◌, nat_lt, nat_le, Bool, ◌&&◌, List, length, map}
 use Rattle.osl_value.specs.declared.types.Ty.{Ty}
 use Rattle.osl_value.specs.Types.{slot_count}

@@ -101,7 +101,7 @@ impl BodyLines {
         self.begin(table, owner)
     }
 
-    /// Puts an op behind the others.
+    /// Puts an op after the others.
     fn add(&mut self, kind: ShaderKind, table: &Table, op: Op, line: u32) -> Result<(), LineFault>
         ensures { Finds (λ _. body_of self.new) result (op_added kind table.now.symbols.items (body_of self.old) line op) }
     {

@@ -20,7 +20,7 @@ pub enum OsoKind {
 /// Why a text is no shader's.
 #[derive(Clone, Copy, Debug, PartialEq, Eq)]
 pub enum OsoError {
-    /// Memory was refused.
+    /// An allocation failed.
     Memory,
     /// The kind of the first fault, and its line, counted from 1.
     Bad { kind: OsoKind, line: u32 },

@@ -5,7 +5,7 @@ use osl_value::Memory;
 use osl_valuetext::Unread;
 use std::alloc::{AllocError, AllocFailed};
 
-/// What is wrong with a line, or want of memory.
+/// What is wrong with a line, or that an allocation failed.
 #[derive(Clone, Copy, Debug, PartialEq, Eq)]
 pub(crate) enum LineFault {
     Memory,

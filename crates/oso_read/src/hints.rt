@@ -1,4 +1,4 @@
-//! What a line says: its words, and behind them its hints.
+//! What a line says: its words, and after them its hints.
 
 ghost use Rattle.std.specs.Prelude.{◌≡◌, ◌≤◌, ◌==◌, [], ◌∷◌, ◌++◌, length, drop, filter, take_while, option_map, OnOk, IfOk};
 ghost use Rattle.std.specs.List.{list_all, prefix_len};
@@ -13,7 +13,7 @@ use osl_valuetext::Place;
 use oso_code::name::{continues_name, is_name};
 use std::alloc::Global;
 
-/// A line's words, and the hints behind them, of which those named `meta` are its metadata.
+/// A line's words, and the hints after them, of which those named `meta` are its metadata.
 #[derive(Clone, Copy)]
 pub(crate) struct Said<'w, 'a> {
     pub(crate) words: &'w [&'a [u8]],
@@ -42,7 +42,7 @@ fn name_front(text: &[u8]) -> &[u8]
     &text[..name_len(text)]
 }
 
-/// What stands behind the first byte.
+/// What is after the first byte.
 fn behind_first(word: &[u8]) -> &[u8]
     ensures { result.now ≡ drop 1 word.now }
 {
@@ -137,7 +137,7 @@ pub(crate) fn lacks_metadata(said: Said) -> bool
     true
 }
 
-/// Puts a hint behind others, if it is a datum.
+/// Puts a hint after others, if it is a datum.
 fn push_datum<'a>(hint: &'a [u8], into: &mut Vec<&'a [u8]>) -> Result<(), Memory>
     ensures { OnOk result (spoken into.new.items ≡ spoken into.old.items ++ filter is_datum (hint.now ∷ [])) }
 {

@@ -33,7 +33,7 @@ fn without_carriage_return(line: &[u8]) -> &[u8]
     }
 }
 
-/// The first line of a text, and what stands behind it.
+/// The first line of a text, and what is after it.
 fn first_line(text: &[u8]) -> (&[u8], &[u8])
     requires { 0 < length text.now }
     ensures lines { lines text.now ≡ result.0.now ∷ lines result.1.now }

@@ -45,7 +45,7 @@ impl NameTable {
         self.names.contains(name)
     }
 
-    /// Puts a name behind the others.
+    /// Puts a name after the others.
     pub(crate) fn push(&mut self, alloc: Global, name: &[u8]) -> Result<(), Memory>
         requires { list_any (bytes_eq name.now) self.old ≡ false }
         ensures { OnOk result (self.new ≡ self.old ++ name.now ∷ []) }

@@ -85,7 +85,7 @@ fn code_words<'a>(words: &[&'a [u8]]) -> Option<&'a [u8]>
     if is_name(name) { Some(name) } else { None }
 }
 
-/// The name behind `code`.
+/// The name after `code`.
 #[tactic(auto, unfolding(crate::specs::OpLine::code_at))]
 pub(crate) fn code_at<'a>(said: Said<'_, 'a>) -> Option<&'a [u8]>
     ensures { option_map (λ name. name.now) result ≡ code_at (seen said.entry) }
@@ -96,7 +96,7 @@ pub(crate) fn code_at<'a>(said: Said<'_, 'a>) -> Option<&'a [u8]>
     code_words(said.words)
 }
 
-/// Whether nothing stands behind `end`.
+/// Whether nothing stands after `end`.
 #[tactic(auto, unfolding(crate::specs::OpLine::is_end))]
 pub(crate) fn is_end(said: Said) -> bool
     ensures { result ≡ is_end (seen said.entry) }

@@ -211,7 +211,7 @@ fn is_ended(text: &[u8], reader: &Reader) -> bool
     !reader.is_last() || ends_in_line_feed(text)
 }
 
-/// Reads `end` with its line feed, behind which nothing means something.
+/// Reads `end` with its line feed, after which nothing means something.
 #[tactic(auto, unfolding(crate::specs::Reading::ended))]
 pub(crate) fn read_end(text: &[u8], body: &BodyLines, reader: &mut Reader) -> Result<(), OsoError>
     requires { line_after reader.old ≡ line_count text.now + 1 }

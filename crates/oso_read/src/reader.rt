@@ -12,7 +12,7 @@ use std::alloc::Global;
 /// A text at a line that means something.
 #[derive(Drop)]
 pub(crate) struct Reader<'a> {
-    /// What stands behind the line.
+    /// What is after the line.
     lines: Lines<'a>,
 
     /// The line's number, or none where no line is left.
@@ -75,7 +75,7 @@ impl<'a> Reader<'a> {
         self.number
     }
 
-    /// The number of the line after the last, behind which no text stands.
+    /// The number of the line after the last, after which no text stands.
     pub(crate) fn number_after(&self) -> u32
         requires { length self.now.lines.rest.now ≡ 0 }
         ensures { result ≡ line_after self.now }
@@ -83,7 +83,7 @@ impl<'a> Reader<'a> {
         self.lines.number
     }
 
-    /// Whether no text stands behind the line.
+    /// Whether no text stands after the line.
     pub(crate) fn is_last(&self) -> bool
         ensures { result ≡ (length self.now.lines.rest.now == 0) }
     {
@@ -111,7 +111,7 @@ impl<'a> Reader<'a> {
         is_end_line(self.words.as_slice())
     }
 
-    /// Whether the line is the first behind the symbols.
+    /// Whether the line is the first after the symbols.
     pub(crate) fn begins_body(&self) -> bool
         ensures { result ≡ begins_body (spoken self.now.words.items) }
     {

@@ -29,7 +29,7 @@ pub(crate) struct HeadLine {
     pub(crate) metas: ListOf<Meta>,
 }
 
-/// A type, and the words behind it.
+/// A type, and the words after it.
 #[derive(Clone, Copy)]
 pub(crate) struct TypedWords<'w, 'a> {
     ty: Ty,

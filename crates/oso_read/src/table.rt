@@ -53,7 +53,7 @@ impl Table {
         }
     }
 
-    /// Whether a symbol passes no limit behind the others.
+    /// Whether a symbol passes no limit after the others.
     fn has_room(&self, ty: Ty) -> bool
         ensures { result ≡ has_room self.now.symbols.items ty }
     {
@@ -67,21 +67,21 @@ impl Table {
         !self.names.contains(name)
     }
 
-    /// Whether a symbol fits behind the others.
+    /// Whether a symbol fits after the others.
     fn fits(&self, symbol: &Symbol) -> bool
         ensures { result ≡ fits_behind self.now.symbols.items symbol.now }
     {
         symbol_fits(self.leading, symbol) && self.is_free(symbol.name.bytes())
     }
 
-    /// Whether the symbols are parameters with one of a class behind them.
+    /// Whether the symbols are parameters with one of a class after them.
     fn leads(&self, class: Class) -> bool
         ensures { result ≡ are_parameters self.now.symbols.items && is_parameter class }
     {
         self.leading && class.is_parameter()
     }
 
-    /// The symbols with one more behind them.
+    /// The symbols with one more after them.
     pub(crate) fn with(self, alloc: Global, symbol: Symbol) -> Result<Table, LineFault>
         ensures { Finds (λ table. table.symbols.items) result (added self.symbols.items symbol) }
     {

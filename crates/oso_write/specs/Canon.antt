@@ -1,4 +1,4 @@
--- The one canonical text of a shader: its lines with one space between words and a line feed behind the last.
+-- The one canonical text of a shader: its lines with one space between words and a line feed after the last.
 use Rattle.std.specs.Prelude.{ℕ, List, [], ◌∷◌, ◌++◌}
 use Rattle.std.specs.List.{flat_map}
 use Rattle.oso_code.specs.declared.raw.Raw.{Raw}

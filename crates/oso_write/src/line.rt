@@ -13,7 +13,7 @@ use osl_value::{Memory, Value};
 use osl_valuetext::{write_decimal, write_numbers, write_string, write_type, write_value};
 use oso_code::{ListOf, Meta, Op, Raw, Symbol};
 
-/// Appends a word behind a space.
+/// Appends a word after a space.
 fn write_spaced(word: &[u8], out: &mut Vec<u8>) -> Result<(), Memory>
     ensures { OnOk result (out.new.items ≡ out.old.items ++ 32 ∷ word.now) }
 {
@@ -22,7 +22,7 @@ fn write_spaced(word: &[u8], out: &mut Vec<u8>) -> Result<(), Memory>
     Ok(())
 }
 
-/// Appends the strings of a datum, each behind a comma.
+/// Appends the strings of a datum, each after a comma.
 fn write_data_texts(texts: &[ListOf<u8>], out: &mut Vec<u8>) -> Result<(), Memory>
     ensures { OnOk result (out.new.items ≡ out.old.items ++ behind 44 (map string_text texts.now)) }
 {
@@ -48,7 +48,7 @@ fn write_meta(meta: &Meta, out: &mut Vec<u8>) -> Result<(), Memory>
     Ok(())
 }
 
-/// Appends metadata, each datum behind a space.
+/// Appends metadata, each datum after a space.
 fn write_metas(metas: &[Meta], out: &mut Vec<u8>) -> Result<(), Memory>
     requires { All IsDatum metas.now }
     ensures { OnOk result (out.new.items ≡ out.old.items ++ behind 32 (map meta_text metas.now)) }
@@ -115,7 +115,7 @@ fn name_at(symbols: &[Symbol], number: u32) -> &[u8]
     }
 }
 
-/// Appends the names of symbols, each behind a space.
+/// Appends the names of symbols, each after a space.
 fn write_args(symbols: &[Symbol], args: &[u32], out: &mut Vec<u8>) -> Result<(), Memory>
     ensures { OnOk result (out.new.items ≡ out.old.items
         ++ behind 32 (map (name_at symbols.now) args.now)) }
@@ -126,7 +126,7 @@ fn write_args(symbols: &[Symbol], args: &[u32], out: &mut Vec<u8>) -> Result<(),
     Ok(())
 }
 
-/// Appends ops' numbers, each behind a space.
+/// Appends ops' numbers, each after a space.
 fn write_jumps(jumps: &[u32], out: &mut Vec<u8>) -> Result<(), Memory>
     ensures { OnOk result (out.new.items ≡ out.old.items ++ behind 32 (map decimal jumps.now)) }
 {

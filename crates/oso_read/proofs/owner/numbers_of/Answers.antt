@@ -10,7 +10,7 @@ module _ (f : List ℕ → Option ℕ) (names : List (Bor (List ℕ))) (i : ℕ)
   behind : Option (List ℕ)
   behind = each f (spoken (drop (i + 1) names))
 
-  -- the name that is read, and those behind it
+  -- the name that is read, and those after it
   next : (o : Option ℕ) → f (get_or names i d).now ≡ o → each f (spoken (drop i names)) ≡ (o >>= λ n. each f (spoken (drop (i + 1) names)) >>= λ ns. Some (n ∷ ns))
   next o is =
       ap (λ rest. each f (spoken rest)) (drop-cons names i d lt)
