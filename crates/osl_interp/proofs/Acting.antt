@@ -2,7 +2,7 @@
 use Rattle.std.proofs.Common.{◌≡◌, ◌≢◌, ℕ, ◌+◌, ◌-◌, ◌*◌, ◌<◌, ◌≤◌, inl, ⊎_elim, List, [], ◌∷◌, ◌++◌, length, map, get_or, Option, Some, None, Bool, true, false, refl, sym, ap, ◌∙◌, subst, arith}
 use Rattle.std.specs.Prelude.{slice_get, slice_set, nat_eq, if◌then◌else◌, IsTrue}
 use Rattle.std.proofs.Math.ListN.{length-set}
-use Rattle.std.proofs.lemmas.Bool.{cases_eq, eqb-true, eqb-false}
+use Rattle.std.proofs.lemmas.Bool.{cases_eq, eqb-true, eqb-false, lt-ltb}
 use Rattle.std.proofs.lemmas.Option.{slice_get_read}
 use Rattle.osl_value.specs.declared.op_name.OpName.{OpName}
 use Rattle.osl_value.specs.declared.types.Ty.{Ty}
@@ -26,7 +26,7 @@ use Rattle.oso_code.proofs.Nested.{valid_nested}
 use Rattle.osl_interp.specs.Advances.{Advances, Asks, EndsAs, here, reads_first, turn_weight, one_op}
 use Rattle.osl_interp.specs.Decoded.{seen_span}
 use Rattle.osl_interp.specs.Known.{met, is_wired, is_wired_at, given_reads, FitsAt, Fits}
-use Rattle.osl_interp.specs.Meaning.{Configuration, held_values, configuration, behind, resume, now, state_of, later_sections, comes_from, meaning}
+use Rattle.osl_interp.specs.Meaning.{Configuration, held_values, configuration, behind, resume, now, state_of, later_sections, comes_from, meaning, pending_in, pending}
 use Rattle.osl_interp.specs.Ready.{IsLaid, IsRange, IsLoop, Ready}
 use Rattle.osl_interp.specs.declared.frame.Frame.TheVariants.{Rest, Called, Test, Body}
 use Rattle.osl_interp.specs.declared.frame.LoopOp.{LoopOp}
@@ -90,6 +90,10 @@ read_missing c step ks a r missing inputs h n =
     let fit = sources_fit c.code c.inputs c.values a.ready.laid inputs h in
     spent_by c step a inputs (state_of n c) (state_of (n + 1) c) (r.is inputs (state_of (n + 1) c) ∙ arguments_missing c.code (sources_of c.code inputs) c.inputs c.values fit ks c.turns (n + 1) (r.go inputs) missing)
 
+-- an op that waits is not counted yet
+is_pending : (c : Configuration) → c.mode ≡ M.Run → c.at < c.end → pending c ≡ 1
+is_pending c runs inside = ap (λ m. pending_in m c.at c.end) runs ∙ ap (λ b. if b then 1 else 0) (lt-ltb c.at c.end inside)
+
 pub read_asks : (c : Configuration) (step : S.Step) (ks : List ℕ) (p : ℕ) → At c step → Reads c step ks → met c.inputs ks ≡ T.Waiting p → Asks c p
 read_asks c step ks p a r waits =
     record {
@@ -104,8 +108,8 @@ read_asks c step ks p a r waits =
       stops = λ inputs h none s.
           let fit = sources_fit c.code c.inputs c.values a.ready.laid inputs h in
           let gone = wired_nothing c.code c.inputs c.values a.ready.laid inputs h p (one_waits c.inputs ks p waits) none in
-          let ends = arguments_stop c.code (sources_of c.code inputs) c.inputs c.values fit ks p (ticked s) (r.go inputs) gone waits in
-          (ends.0, spent_by c step a inputs s (note p ends.0) (r.is inputs (ticked s) ∙ ends.1));
+          let ends = arguments_stop c.code (sources_of c.code inputs) c.inputs c.values fit ks p (s.ops + 1) (ticked s) (r.go inputs) gone waits refl in
+          (ends.0, spent_by c step a inputs s (note p ends.0) (r.is inputs (ticked s) ∙ ends.1), ends.2 ∙ ap (λ n. s.ops + n) (sym (is_pending c a.runs a.inside)));
     }
 
 -- ---- a condition

@@ -1,13 +1,12 @@
 -- Steps, one after another.
-use Rattle.std.proofs.Common.{◌≡◌, ℕ, ◌+◌, ◌-◌, ◌<◌, ◌≤◌, refl, sym, ap, ◌∙◌, subst, arith}
+use Rattle.std.proofs.Common.{◌≡◌, ℕ, ◌+◌, ◌-◌, ◌<◌, ◌≤◌, refl, sym, ap, ◌∙◌, Option, Some, None, subst, arith}
 use Rattle.oso_code.specs.Run.{Spent}
 use Rattle.osl_interp.specs.Advances.{Advances, Asks, EndsAs, StopDone, work, no_op, one_op}
-use Rattle.osl_interp.specs.Layers.{Goes, Finishes, Fails, StepDone, RunDone}
+use Rattle.osl_interp.specs.Stops.{Goes, Finishes, Fails, StepDone, EndDone, ticks_at}
 use Rattle.osl_interp.specs.Meaning.{Configuration, state_of, meaning}
 use Rattle.osl_interp.specs.Ready.{Ready}
-use Rattle.osl_interp.specs.declared.machine.Stop.{Stop}
-use Rattle.osl_interp.specs.declared.machine.Stop.TheVariants as T
-use Rattle.osl_interp.specs.declared.run.End.TheVariants as E
+use Rattle.osl_interp.specs.declared.stop.LayerStop.{LayerStop}
+use Rattle.osl_interp.specs.declared.stop.LayerStop.TheVariants as T
 
 -- a step counts what t says
 pub record Counts (t : ℕ → ℕ) (a b : ℕ) : Type 0 where
@@ -33,32 +32,40 @@ step_goes t old new a b k h = (
   h.less,
 )
 
-pub step_finishes : (t : ℕ → ℕ) (old new : Configuration) (a b : ℕ) → Counts t a b → Ready old → StopDone t old new T.Done → Finishes old new a b
+pub step_finishes : (t : ℕ → ℕ) (old new : Configuration) (a b : ℕ) → Counts t a b → Ready old → StopDone t old new (Some T.Done) → Finishes old new a b
 step_finishes t old new a b k ready h =
     subst (λ x. Finishes old x a b) (sym h.0) (record {
       laid = ready.laid;
       code = refl;
       inputs_stay = refl;
+      fits = λ inputs f. f;
       grows = k.grows;
       ends = λ inputs fits n. subst (λ x. EndsAs (meaning inputs n old) (state_of x old)) (sym (k.by n)) (h.1 inputs fits n);
     })
 
-pub step_fails : (t : ℕ → ℕ) (old new : Configuration) (a b : ℕ) → Counts t a b → StopDone t old new T.Spent → Fails old new a b
+pub step_fails : (t : ℕ → ℕ) (old new : Configuration) (a b : ℕ) → Counts t a b → StopDone t old new (Some T.Spent) → Fails old new a b
 step_fails t old new a b k h =
-    subst (λ x. Fails old x a b) (sym h.0) (record { inputs_stay = refl; grows = k.grows; ends = λ inputs fits n. h.1 inputs fits n ∙ ap (λ x. Spent (state_of x old)) (sym (k.by n)) })
+    subst (λ x. Fails old x a b) (sym h.0) (record { inputs_stay = refl; fits = λ inputs f. f; grows = k.grows; ends = λ inputs fits n. h.1 inputs fits n ∙ ap (λ x. Spent (state_of x old)) (sym (k.by n)) })
 
 pub goes_none : (c : Configuration) (a : ℕ) → Ready c → Goes c c a a
 goes_none c a ready =
     record { ready = ready; code = refl; inputs_stay = refl; fits = λ inputs h. h; grows = omega arith; same = λ inputs h n. let e : n + (a - a) ≡ n = omega arith in ap (λ x. meaning inputs x c) e }
 
-pub step_asks : (t : ℕ → ℕ) (old new : Configuration) (a p : ℕ) → Ready old → StopDone t old new (T.Needs p) → StepDone old new a a (T.Needs p)
+pub step_asks : (t : ℕ → ℕ) (old new : Configuration) (a p : ℕ) → Ready old → StopDone t old new (Some (T.Needs p)) → EndDone old new a a (T.Needs p)
 step_asks t old new a p ready h = (subst (λ x. Goes old x a a) (sym h.0) (goes_none old a ready), subst (λ x. Asks x p) (sym h.0) h.1)
 
-pub left_done : (old new : Configuration) (a : ℕ) (stop : Stop) → Ready old → StopDone no_op old new stop → StepDone old new a a stop
-left_done old new a T.Going ready h = step_goes no_op old new a a (counts_none a) h
-left_done old new a T.Done ready h = step_finishes no_op old new a a (counts_none a) ready h
-left_done old new a T.Spent ready h = step_fails no_op old new a a (counts_none a) h
-left_done old new a (T.Needs p) ready h = step_asks no_op old new a p ready h
+pub left_done : (old new : Configuration) (a : ℕ) (stop : Option LayerStop) → Ready old → StopDone no_op old new stop → StepDone old new a a stop
+left_done old new a None ready h = step_goes no_op old new a a (counts_none a) h
+left_done old new a (Some T.Done) ready h = step_finishes no_op old new a a (counts_none a) ready h
+left_done old new a (Some T.Spent) ready h = step_fails no_op old new a a (counts_none a) h
+left_done old new a (Some (T.Needs p)) ready h = step_asks no_op old new a p ready h
+
+-- the run stops at an op
+pub op_stops : (old new : Configuration) (a b : ℕ) (stop : LayerStop) → Ready old → b ≡ a + ticks_at stop → StopDone one_op old new (Some stop) → EndDone old new a b stop
+op_stops old new a b T.Done ready is h = step_finishes one_op old new a b (counts_one a b is) ready h
+op_stops old new a b T.Spent ready is h = step_fails one_op old new a b (counts_one a b is) h
+op_stops old new a b (T.Needs p) ready is h =
+    let e : a ≡ b = omega (arith, is) in subst (λ n. EndDone old new a n (T.Needs p)) e (step_asks one_op old new a p ready h)
 
 -- ---- chains
 
@@ -83,6 +90,7 @@ goes_finishes old mid new a b c g h =
       laid = h.laid;
       code = h.code ∙ g.code;
       inputs_stay = h.inputs_stay ∙ g.inputs_stay;
+      fits = λ inputs f. h.fits inputs (g.fits inputs f);
       grows = omega (arith, x, y);
       ends = λ inputs f n.
           let e : n + (c - a) ≡ (n + (b - a)) + (c - b) = omega (arith, x, y) in
@@ -94,11 +102,14 @@ goes_fails old mid new a b c g h =
     let x = g.grows in let y = h.grows in
     record {
       inputs_stay = h.inputs_stay ∙ g.inputs_stay;
+      fits = λ inputs f. h.fits inputs (g.fits inputs f);
       grows = omega (arith, x, y);
       ends = λ inputs f n.
           let e : n + (c - a) ≡ (n + (b - a)) + (c - b) = omega (arith, x, y) in
           sym (g.same inputs f n) ∙ h.ends inputs (g.fits inputs f) (n + (b - a)) ∙ ap (λ k. Spent (state_of k new)) (sym e);
     }
 
-pub goes_asks : (old mid new : Configuration) (a b c p : ℕ) → Goes old mid a b → StepDone mid new b c (T.Needs p) → RunDone old new a c (E.Needs p)
-goes_asks old mid new a b c p g h = (goes_on old mid new a b c g h.0, h.1)
+pub goes_ends : (old mid new : Configuration) (a b c : ℕ) (stop : LayerStop) → Goes old mid a b → EndDone mid new b c stop → EndDone old new a c stop
+goes_ends old mid new a b c T.Done g h = goes_finishes old mid new a b c g h
+goes_ends old mid new a b c T.Spent g h = goes_fails old mid new a b c g h
+goes_ends old mid new a b c (T.Needs p) g h = (goes_on old mid new a b c g h.0, h.1)

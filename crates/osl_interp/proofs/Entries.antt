@@ -14,7 +14,7 @@ use Rattle.oso_code.specs.CodeRun.{is_parameter_at}
 use Rattle.oso_code.specs.Ops.{type_at, type_of_symbol}
 use Rattle.oso_code.specs.Symbols.{is_parameter}
 use Rattle.oso_code.proofs.Members.{and_both, both_and}
-use Rattle.osl_interp.specs.Layers.{HasOneEach, InputsFit}
+use Rattle.osl_interp.specs.Calls.{HasOneEach, InputsFit}
 use Rattle.osl_interp.specs.Starts.{is_input, has_type, entry_fits, FitTo, EntriesFit}
 use Rattle.osl_interp.proofs.Starting.{is_there, below_there, has_entry, some_of}
 

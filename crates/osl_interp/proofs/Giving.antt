@@ -22,10 +22,7 @@ use Rattle.oso_code.specs.Steps as S
 use Rattle.oso_code.specs.Symbols.{is_global}
 use Rattle.oso_code.proofs.Members.{and_both}
 use Rattle.osl_interp.specs.Advances.{Asks}
-use Rattle.osl_interp.specs.Known.{is_wired, is_wired_at, is_given, given_reads, known_as, FitsAt, Fits}
-use Rattle.osl_interp.specs.Layers.{run_of, MayGo, IsAsking, Gave}
-use Rattle.osl_interp.specs.declared.layer_run.LayerRun.{LayerRun}
-use Rattle.osl_interp.specs.declared.layer_run.Status.TheVariants as R
+use Rattle.osl_interp.specs.Known.{is_wired, is_wired_at, is_given, given_reads, FitsAt, Fits}
 use Rattle.osl_interp.specs.Meaning.{Configuration, held_values, state_of, comes_from, meaning}
 use Rattle.osl_interp.specs.Ready.{IsLaid, Spares, IsRange, IsLoop, IsFrame, AreFrames, Ready}
 use Rattle.osl_interp.specs.declared.frame.Frame.{Frame}
@@ -72,12 +69,12 @@ module _ (code : Raw) (old new : List Known) (same : (k : ℕ) → is_wired_at n
 
 -- ---- a list with another element
 
-set_here : (ks : List Known) (p : ℕ) (x : Known) → p < length ks → slice_get (slice_set ks p x) p ≡ Some x
+pub set_here : {X : Type 0} (ks : List X) (p : ℕ) (x : X) → p < length ks → slice_get (slice_set ks p x) p ≡ Some x
 set_here ks p x lt =
     let h = length-set ks p x in
     slice_get-get_or (slice_set ks p x) p x (omega (arith, h, lt)) ∙ ap Some (get_or-set_same ks p x x lt)
 
-set_apart : (ks : List Known) (p k : ℕ) (x : Known) → k ≢ p → slice_get (slice_set ks p x) k ≡ slice_get ks k
+pub set_apart : {X : Type 0} (ks : List X) (p k : ℕ) (x : X) → k ≢ p → slice_get (slice_set ks p x) k ≡ slice_get ks k
 set_apart ks p k x ne =
     let h = length-set ks p x in
     ⊎_elim (λ (lt : k < length ks). slice_get-get_or (slice_set ks p x) k x (omega (arith, h, lt)) ∙ ap Some (get_or-set_other ks p k x x ne) ∙ sym (slice_get-get_or ks k x lt)) (λ (le : length ks ≤ k). slice_get_past (slice_set ks p x) k (omega (arith, h, le)) ∙ sym (slice_get_past ks k le)) (cases_lt k (length ks))
@@ -99,10 +96,6 @@ asked_symbol c p ready waits = ⊎_elim (λ (lt : p < length c.code.symbols). lt
 abbrev pub GivenAs : Option AnyValue → Known → AnyValue → Type 0
 GivenAs None known w = known ≡ K.Nothing
 GivenAs (Some v) known w = (known ≡ K.Given) × (w ≡ v)
-
-given_known : (given : Option AnyValue) (known : Known) (w : AnyValue) → GivenAs given known w → known ≡ known_as given
-given_known None known w h = h
-given_known (Some v) known w h = h.0
 
 given_wired : (given : Option AnyValue) (known : Known) (w : AnyValue) → GivenAs given known w → is_wired (Some known) ≡ true
 given_wired None known w h = ap (λ x. is_wired (Some x)) h
@@ -219,24 +212,7 @@ closure_held code known vs laid =
     ∙ sym (ap (λ b. if b then zero_value (type_at code.symbols k) else argument vs k) (ci_not_wired code known vs laid k symbol at ci))
     ∙ ap (held_values code known vs) (sym e))
 
--- ---- the call
-
-pub gave : (old new : LayerRun) (p : ℕ) (given : Option AnyValue) (known : Known) (w : AnyValue) → IsAsking old p → GivenAs given known w → type_of w ≡ type_at (run_of old).code.symbols p
-    → run_of new ≡ record (run_of old) { inputs = slice_set (run_of old).inputs p known; values = slice_set (run_of old).values p w } → new.status ≡ R.Resumed → Gave old new p given
-gave old new p given known w asking as_given typed is status =
-    let c = run_of old in
-    let g : Gives c p given known w = record { ready = asking.ready; asks = asking.asks; given_as = as_given; typed = typed } in
-    record {
-      ready = record { ready = subst Ready (sym is) (after_ready c p given known w g); may = subst MayGo (sym status) tt };
-      resumed = status;
-      code = ap (λ (x : Configuration). x.code) is;
-      inputs = ap (λ (x : Configuration). x.inputs) is ∙ ap (slice_set c.inputs p) (given_known given known w as_given);
-      agrees = λ inputs h from. subst (λ (x : Configuration). Fits inputs x.inputs x.values) (sym is) (after_fits c p given known w g inputs h from);
-      agreed = λ inputs h.
-          let f = subst (λ (x : Configuration). Fits inputs x.inputs x.values) is h in
-          (before_fits c p given known w g inputs f, given_is c p given known w g inputs f);
-      same = λ inputs h n. ap (meaning inputs n) is ∙ after_same c p given known w g inputs (subst (λ (x : Configuration). Fits inputs x.inputs x.values) is h) n;
-    }
+-- ---- slots
 
 -- the slots with another one, and the values with what is there already
 pub values_set : (slots : List Slot) (p : ℕ) (slot : Slot) → values (slice_set slots p slot) ≡ slice_set (values slots) p (seen slot)
@@ -245,15 +221,16 @@ values_set slots p slot = map-set seen slots p slot
 pub values_stay : (vs : List AnyValue) (p : ℕ) → slice_set vs p (argument vs p) ≡ vs
 values_stay vs p = set-get_or vs p (Parts [])
 
-module _ (run : LayerRun) (p : ℕ) (asking : IsAsking run p) where
-  pub asked_slot : (n : ℕ) → n ≡ length run.machine.slots.items → p < n
+-- what waits has a slot and an entry
+module _ (c : Configuration) (p : ℕ) (ready : Ready c) (asks : Asks c p) where
+  pub asked_slot : (n : ℕ) → n ≡ length c.values → p < n
   asked_slot n is =
-      let lt = asked_symbol (run_of run) p asking.ready asking.asks.waits in
-      let s = asking.ready.laid.slots in let l = length_values run.machine.slots.items in
-      omega (arith, lt, s, l, is)
+      let lt = asked_symbol c p ready asks.waits in
+      let s = ready.laid.slots in
+      omega (arith, lt, s, is)
 
-  pub asked_input : (n : ℕ) → n ≡ length run.machine.inputs.items → p < n
-  asked_input n is = let lt = slice_get_within run.machine.inputs.items p K.Waiting asking.asks.waits in omega (arith, lt, is)
+  pub asked_input : (n : ℕ) → n ≡ length c.inputs → p < n
+  asked_input n is = let lt = slice_get_within c.inputs p K.Waiting asks.waits in omega (arith, lt, is)
 
-  pub asked_type : type_of (argument (run_of run).values p) ≡ type_at (run_of run).code.symbols p
-  asked_type = asking.ready.laid.types p (asked_symbol (run_of run) p asking.ready asking.asks.waits)
+  pub asked_type : type_of (argument c.values p) ≡ type_at c.code.symbols p
+  asked_type = ready.laid.types p (asked_symbol c p ready asks.waits)

@@ -13,17 +13,15 @@ use Rattle.oso_code.specs.Steps as S
 use Rattle.oso_code.proofs.Lasting.{then_lasts, after_lasts, call_lasts, on_lasts, turn_lasts, looped_lasts, test_lasts, range_lasts, count_lasts}
 use Rattle.osl_interp.specs.Advances.{Asks, EndsAs}
 use Rattle.osl_interp.specs.Known.{given_reads, Fits}
-use Rattle.osl_interp.specs.Layers.{Goes, Finishes, Fails, RunDone, Counted, run_of, comes_to, AreKept, Done, Spends, Needs}
+use Rattle.osl_interp.specs.Stops.{Goes, Finishes, Fails, EndDone, Counted}
 use Rattle.osl_interp.specs.Meaning.{Configuration, run_range, from_test, from_turn, from_step, behind, close, resume, now, state_of, later_sections, comes_from, meaning}
 use Rattle.osl_interp.specs.declared.frame.Frame.{Frame}
 use Rattle.osl_interp.specs.declared.frame.Frame.TheVariants.{Rest, Called, Test, Body, Step}
 use Rattle.osl_interp.specs.declared.frame.LoopOp.{LoopOp}
 use Rattle.osl_interp.specs.declared.frame.Mode.{Mode}
 use Rattle.osl_interp.specs.declared.frame.Mode.TheVariants as M
-use Rattle.osl_interp.specs.declared.layer_run.LayerRun.{LayerRun}
-use Rattle.osl_interp.specs.declared.layer_run.Status.TheVariants as T
-use Rattle.osl_interp.specs.declared.run.End.{End}
-use Rattle.osl_interp.specs.declared.run.End.TheVariants as E
+use Rattle.osl_interp.specs.declared.stop.LayerStop.{LayerStop}
+use Rattle.osl_interp.specs.declared.stop.LayerStop.TheVariants as E
 
 module _ (P : State → Type 0) (keeps : Lasts P) where
   module _ (from : Sources) (steps : List S.Step) where
@@ -85,7 +83,7 @@ put_keeps k p f h = by (nat_eq p k)
     by true = refl
     by false = h
 
-reads_last : (p : ℕ) → Lasts (λ s. s.reads p ≡ true)
+pub reads_last : (p : ℕ) → Lasts (λ s. s.reads p ≡ true)
 reads_last p = record { writes = λ k v s h. h; notes = λ k s h. put_keeps k p s.reads h; ticks = λ s h. h; turns = λ n s h e. h }
 
 put_there : (p : ℕ) (f : ℕ → Bool) → put p true f p ≡ true
@@ -101,21 +99,9 @@ asked_reads inputs c p n a h =
 pub asked_ops : (inputs : L.Inputs) (c : Configuration) (n : ℕ) → n ≤ (last (meaning inputs n c)).ops
 asked_ops inputs c n = comes_lasts (λ s. n ≤ s.ops) (count_lasts n) inputs c (state_of n c) (omega arith)
 
-pub needs : (old new : LayerRun) (a b p : ℕ) → Goes (run_of old) (run_of new) a b → Asks (run_of new) p → new.status ≡ T.Asking p → Needs old new a b p
-needs old new a b p g asks status =
-    let x = g.grows in
-    record {
-      asking = record { ready = g.ready; status = status; asks = asks };
-      goes = g;
-      reads = λ inputs h n. subst (λ o. (last o).reads p ≡ true) (g.same inputs h n) (asked_reads inputs (run_of new) p (n + (b - a)) asks (g.fits inputs h));
-      ops = λ inputs h n.
-          let le = subst (λ o. n + (b - a) ≤ (last o).ops) (g.same inputs h n) (asked_ops inputs (run_of new) (n + (b - a))) in
-          omega (arith, le, x);
-    }
-
 -- ---- the count, however the run ends
 
-ended_last : (o : Outcome) (s : State) → EndsAs o s → last o ≡ s
+pub ended_last : (o : Outcome) (s : State) → EndsAs o s → last o ≡ s
 ended_last (Next t) s h = h
 ended_last (Jumps way t) s h = h
 ended_last (Spent t) s h = absurd h
@@ -146,33 +132,12 @@ fails_counted old new a b f =
       within = λ inputs h n. let e : (last (meaning inputs n old)).ops ≡ n + (b - a) = ap (λ o. (last o).ops) (f.ends inputs h n) in omega (arith, e, x);
     }
 
-pub run_counted : (old new : Configuration) (a b : ℕ) (end : End) → RunDone old new a b end → Counted old a b
+pub run_counted : (old new : Configuration) (a b : ℕ) (stop : LayerStop) → EndDone old new a b stop → Counted old a b
 run_counted old new a b E.Done h = finishes_counted old new a b h
 run_counted old new a b E.Spent h = fails_counted old new a b h
 run_counted old new a b (E.Needs p) h = goes_counted old new a b h.0
 
-ended_given : (code : Raw) (o : Outcome) (s : State) → EndsAs o s → (layer_end code o).results ≡ Some (results_by code s)
+pub ended_given : (code : Raw) (o : Outcome) (s : State) → EndsAs o s → (layer_end code o).results ≡ Some (results_by code s)
 ended_given code (Next t) s h = ap (λ x. Some (results_by code x)) h
 ended_given code (Jumps way t) s h = ap (λ x. Some (results_by code x)) h
 ended_given code (Spent t) s h = absurd h
-
-pub done : (old mid new : LayerRun) (a b : ℕ) → Finishes (run_of old) (run_of mid) a b → run_of new ≡ run_of mid → AreKept (run_of new).code.symbols new.machine.slots.items → new.status ≡ T.Done → Done old new a b
-done old mid new a b h is kept status =
-    let x = h.grows in
-    let f : Finishes (run_of old) (run_of new) a b = subst (λ c. Finishes (run_of old) c a b) (sym is) h in
-    record {
-      done = record { status = status; laid = f.laid; kept = kept };
-      code = f.code;
-      given = λ inputs fits n. ended_given (run_of old).code (comes_to inputs n old) (state_of (n + (b - a)) (run_of new)) (f.ends inputs fits n) ∙ ap (λ code. Some (results_by code (state_of 0 (run_of new)))) (sym f.code);
-      reads = λ inputs fits n. ap (λ s. s.reads) (ended_last (comes_to inputs n old) (state_of (n + (b - a)) (run_of new)) (f.ends inputs fits n)) ∙ ap given_reads f.inputs_stay;
-      ops = λ inputs fits n. let e : (last (comes_to inputs n old)).ops ≡ n + (b - a) = ap (λ s. s.ops) (ended_last (comes_to inputs n old) (state_of (n + (b - a)) (run_of new)) (f.ends inputs fits n)) in omega (arith, e, x);
-    }
-
-pub spends : (old new : LayerRun) (a b : ℕ) → Fails (run_of old) (run_of new) a b → Spends old new a b
-spends old new a b f =
-    let x = f.grows in
-    record {
-      given = λ inputs fits n. ap (λ (o : Outcome). (layer_end (run_of old).code o).results) (f.ends inputs fits n);
-      reads = λ inputs fits n. ap (λ o. (last o).reads) (f.ends inputs fits n) ∙ ap given_reads f.inputs_stay;
-      ops = λ inputs fits n. let e : (last (comes_to inputs n old)).ops ≡ n + (b - a) = ap (λ o. (last o).ops) (f.ends inputs fits n) in omega (arith, e, x);
-    }

@@ -1,6 +1,7 @@
 -- The ends of ranges: what each frame goes on with.
-use Rattle.std.proofs.Common.{◌≡◌, ◌≢◌, ℕ, suc, ◌+◌, ◌*◌, ◌<◌, ◌≤◌, ◌⊎◌, inl, inr, List, [], ◌∷◌, ◌++◌, length, Bool, true, false, refl, sym, ap, ◌∙◌, subst, arith}
+use Rattle.std.proofs.Common.{◌≡◌, ◌≢◌, ℕ, suc, ◌+◌, ◌*◌, ◌<◌, ◌≤◌, ◌⊎◌, inl, inr, List, [], ◌∷◌, ◌++◌, length, Some, None, Bool, true, false, add-zero, refl, sym, ap, ◌∙◌, subst, arith}
 use Rattle.std.specs.Prelude.{if◌then◌else◌}
+use Rattle.std.proofs.lemmas.Bool.{le-ltb}
 use Rattle.osl_value.specs.AnyValue.{AnyValue, argument}
 use Rattle.osl_layer.specs.Layer.{Inputs}
 use Rattle.oso_code.specs.CodeRun.{sources_of}
@@ -10,7 +11,7 @@ use Rattle.oso_code.specs.Steps as S
 use Rattle.oso_code.proofs.Loops.{loop_first, test_gainless, run_gainless}
 use Rattle.osl_interp.specs.Advances.{Advances, Asks, ReadsNext, StopDone, IsLast, weight, turn_weight, no_op}
 use Rattle.osl_interp.specs.Known.{met, Fits}
-use Rattle.osl_interp.specs.Meaning.{Configuration, run_range, from_test, from_turn, from_step, behind, close, resume, now, state_of, later_sections, comes_from, meaning}
+use Rattle.osl_interp.specs.Meaning.{Configuration, run_range, from_test, from_turn, from_step, behind, close, resume, now, state_of, later_sections, comes_from, meaning, pending_in, pending}
 use Rattle.osl_interp.specs.Ready.{IsLoop, Ready}
 use Rattle.osl_interp.specs.declared.frame.Frame.{Frame}
 use Rattle.osl_interp.specs.declared.frame.Frame.TheVariants.{Rest, Called, Test, Body, Step}
@@ -19,7 +20,7 @@ use Rattle.osl_interp.specs.declared.frame.Mode.{Mode}
 use Rattle.osl_interp.specs.declared.frame.Mode.TheVariants as M
 use Rattle.osl_interp.specs.declared.frame.Span.{Span}
 use Rattle.osl_interp.specs.declared.known.Met.TheVariants as T
-use Rattle.osl_interp.specs.declared.machine.Stop.TheVariants as P
+use Rattle.osl_interp.specs.declared.stop.LayerStop.TheVariants as P
 use Rattle.osl_interp.proofs.Frames.{resume_push, resume_spent, over, state_at, top, Top, top_frame, left, swapped, split, under, top_of}
 use Rattle.osl_interp.proofs.Reading.{sources_fit, arguments_all, arguments_missing, arguments_note, arguments_stop, one_waits, wired_nothing, first_of, on_decide}
 
@@ -243,6 +244,10 @@ test_missing c l e t runs missing inputs h n =
     let fit = sources_fit c.code c.inputs c.values t.ready.laid inputs h in
     top_spent c (Test l e) inputs (state_of n c) (state_of n c) (tested_by c l e t runs inputs (state_of n c) ∙ ap (λ o. then_do o (behind from steps l e)) (arguments_missing c.code from c.inputs c.values fit (l.condition ∷ []) c.turns n (first_of (chosen from steps l)) missing))
 
+-- where a range is over nothing is to be counted
+none_pending : (c : Configuration) → c.mode ≡ M.Run → c.end ≤ c.at → pending c ≡ 0
+none_pending c runs past = ap (λ m. pending_in m c.at c.end) runs ∙ ap (λ b. if b then 1 else 0) (le-ltb c.at c.end past)
+
 -- the condition was not given
 pub test_asks : (c : Configuration) (l : LoopOp) (e p : ℕ) → Top c (Test l e) → c.mode ≡ M.Run → ReadsNext (top c (Test l e)) (l.condition ∷ []) → met c.inputs (l.condition ∷ []) ≡ T.Waiting p → Asks (top c (Test l e)) p
 test_asks c l e p t runs next waits =
@@ -264,8 +269,8 @@ test_asks c l e p t runs next waits =
           let steps = steps_of c.code in
           let fit = sources_fit c.code c.inputs c.values t.ready.laid inputs h in
           let gone = wired_nothing c.code c.inputs c.values t.ready.laid inputs h p (one_waits c.inputs (l.condition ∷ []) p waits) none in
-          let ends = arguments_stop c.code from c.inputs c.values fit (l.condition ∷ []) p s (first_of (chosen from steps l)) gone waits in
-          (ends.0, top_spent c (Test l e) inputs s (note p ends.0) (tested_by c l e t runs inputs s ∙ ap (λ o. then_do o (behind from steps l e)) ends.1));
+          let ends = arguments_stop c.code from c.inputs c.values fit (l.condition ∷ []) p s.ops s (first_of (chosen from steps l)) gone waits refl in
+          (ends.0, top_spent c (Test l e) inputs s (note p ends.0) (tested_by c l e t runs inputs s ∙ ap (λ o. then_do o (behind from steps l e)) ends.1), ends.2 ∙ sym (add-zero s.ops) ∙ ap (λ n. s.ops + n) (sym (none_pending c runs (t.past runs))));
     }
 
 -- ---- a condition that was computed, by the frames of the machine
@@ -290,15 +295,15 @@ module _ (c : Configuration) (l : LoopOp) (e : ℕ) (last : IsLast (Test l e) c.
   on_top : Top below (Test l e)
   on_top = top_of c (Test l e) (split c.frames (Test l e) last).0 (split c.frames (Test l e) last).1 ready (λ h. past)
 
-  pub condition_missing : met c.inputs (l.condition ∷ []) ≡ T.Missing → StopDone no_op c c P.Spent
+  pub condition_missing : met c.inputs (l.condition ∷ []) ≡ T.Missing → StopDone no_op c c (Some P.Spent)
   condition_missing missing = (refl, λ inputs h n. ap (meaning inputs n) is_under ∙ test_missing below l e on_top runs missing inputs h n)
 
-  pub condition_waits : (p : ℕ) → met c.inputs (l.condition ∷ []) ≡ T.Waiting p → StopDone no_op c c (P.Needs p)
+  pub condition_waits : (p : ℕ) → met c.inputs (l.condition ∷ []) ≡ T.Waiting p → StopDone no_op c c (Some (P.Needs p))
   condition_waits p waits =
       let next = subst (λ x. ReadsNext x (l.condition ∷ [])) is_under (inr (record { runs = runs; past = past; repeat = l; rest = e; top = last; reads = refl })) in
       (refl, subst (λ x. Asks x p) (sym is_under) (test_asks below l e p on_top runs next waits))
 
-  pub no_turn : met c.inputs (l.condition ∷ []) ≡ T.All → is_so (argument c.values l.condition) ≡ true → c.turns ≡ 0 → StopDone no_op c c P.Spent
+  pub no_turn : met c.inputs (l.condition ∷ []) ≡ T.All → is_so (argument c.values l.condition) ≡ true → c.turns ≡ 0 → StopDone no_op c c (Some P.Spent)
   no_turn all is none = (refl, λ inputs h n. ap (meaning inputs n) is_under ∙ test_spent below l e on_top runs all is none inputs h n)
 
   pub loop_there : IsLoop c.code c.inputs l e

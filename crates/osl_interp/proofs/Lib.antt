@@ -1,4 +1,6 @@
 pub mod Acting
+pub mod Agreeing
+pub mod Calls
 pub mod Chains
 pub mod Entries
 pub mod Frames

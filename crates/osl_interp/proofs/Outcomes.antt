@@ -17,11 +17,11 @@ use Rattle.oso_code.specs.CodeRun.{is_parameter_at, output_of, outputs_from}
 use Rattle.oso_code.specs.Ops.{type_at}
 use Rattle.osl_apply.specs.declared.slot.Slot.TheVariants as W
 use Rattle.osl_interp.specs.Known.{is_wired_at}
-use Rattle.osl_interp.specs.Layers.{AreKept, IsDone, IsOutput, results_of, run_of}
+use Rattle.osl_interp.specs.Calls.{IsOutput}
+use Rattle.osl_interp.specs.Stops.{AreKept}
 use Rattle.osl_interp.specs.Meaning.{held_values}
 use Rattle.osl_interp.specs.Ready.{IsLaid}
 use Rattle.osl_interp.specs.declared.known.Known.{Known}
-use Rattle.osl_interp.specs.declared.layer_run.LayerRun.{LayerRun}
 use Rattle.osl_interp.proofs.Laying.{length_values, held_is}
 
 -- the slots hold what they held, and the outputs before a place can be lent
@@ -112,26 +112,25 @@ module _ (code : Raw) (known : List Known) (vs : List AnyValue) (laid : IsLaid c
       outputs_at 0 code.symbols (held_values code known vs) p symbol are_parameters there class
       ∙ ap (λ v. Some (Some v)) (ap (held_values code known vs) e ∙ ap (λ b. if b then zero_value (type_at code.symbols p) else argument vs p) not_wired)
 
-module _ (run : LayerRun) (p : ℕ) where
-  pub output_given : (v : AnyValue) → IsDone run → IsOutput (run_of run).code p → v ≡ argument (run_of run).values p → slice_get (results_of run).outputs p ≡ Some (Some v)
-  output_given v done out is =
-      output_there (run_of run).code (run_of run).inputs (run_of run).values done.laid p out.0 out.1 out.2 ∙ ap (λ x. Some (Some x)) (sym is)
+module _ (code : Raw) (known : List Known) (slots : List Slot) (laid : IsLaid code known (values slots)) (kept : AreKept code.symbols slots) (p : ℕ) (out : IsOutput code p) where
+  pub output_given : (v : AnyValue) → v ≡ argument (values slots) p → slice_get (outputs_from 0 code.symbols (held_values code known (values slots))) p ≡ Some (Some v)
+  output_given v is = output_there code known (values slots) laid p out.0 out.1 out.2 ∙ ap (λ x. Some (Some x)) (sym is)
 
-  output_within : IsDone run → IsOutput (run_of run).code p → p < length run.machine.slots.items
-  output_within done out =
-      let lt = slice_get_within (run_of run).code.symbols p out.0 out.1 in
-      let s = done.laid.slots in let l = length_values run.machine.slots.items in
+  output_within : p < length slots
+  output_within =
+      let lt = slice_get_within code.symbols p out.0 out.1 in
+      let s = laid.slots in let l = length_values slots in
       omega (arith, lt, s, l)
 
-  pub output_index : (n : ℕ) → IsDone run → IsOutput (run_of run).code p → n ≡ length run.machine.slots.items → p < n
-  output_index n done out is = let lt = output_within done out in omega (arith, lt, is)
+  pub output_index : (n : ℕ) → n ≡ length slots → p < n
+  output_index n is = let lt = output_within in omega (arith, lt, is)
 
   -- the slot that is read
-  pub output_kept : (x : Slot) → IsDone run → IsOutput (run_of run).code p → x ≡ get_or run.machine.slots.items p x → is_kept x ≡ true
-  output_kept x done out is = never_small (run_of run).code.symbols run.machine.slots.items p out.0 x done.kept out.1 out.2 (output_within done out) is
+  pub output_kept : (x : Slot) → x ≡ get_or slots p x → is_kept x ≡ true
+  output_kept x is = never_small code.symbols slots p out.0 x kept out.1 out.2 output_within is
 
-  pub output_is : (x y : Slot) → IsDone run → IsOutput (run_of run).code p → x ≡ get_or run.machine.slots.items p x → x ≡ y → argument (run_of run).values p ≡ seen y
-  output_is x y done out is same = held_is run.machine.slots.items p x (output_within done out) is ∙ ap seen same
+  pub output_is : (x y : Slot) → x ≡ get_or slots p x → x ≡ y → argument (values slots) p ≡ seen y
+  output_is x y is same = held_is slots p x output_within is ∙ ap seen same
 
 -- a slot that can be lent is none of the small ones
 pub small_is : (x : Slot) → is_kept x ≡ true → ((n : ℤ) × (x ≡ W.Int n)) ⊎ (((f : ℤ) × (x ≡ W.Float f)) ⊎ (((k : Kind) × (fs : _) × (x ≡ W.Triple k fs)) ⊎ ((t : _) × (x ≡ W.Str t)))) → ⊥

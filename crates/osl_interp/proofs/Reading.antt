@@ -203,28 +203,28 @@ module _ (code : Raw) (from : Sources) (known : List Known) (values : List AnyVa
   arguments_note (k ∷ ks) p s go h =
       notes_by k (slice_get known k) p (met known ks) s (λ v s1. arguments from ks s1 (λ vs s2. go (v ∷ vs) s2)) refl h (λ later v t. arguments_note ks p t (λ vs s2. go (v ∷ vs) s2) later)
 
-  -- and where it is nothing the run ends with it
-  abbrev pub EndsAt : ℕ → Outcome → Type 0
-  EndsAt p o = (t : State) × (o ≡ Spent (note p t))
+  -- and where it is nothing the run ends with it, with n ops counted
+  abbrev pub EndsAt : ℕ → ℕ → Outcome → Type 0
+  EndsAt p n o = (t : State) × (o ≡ Spent (note p t)) × (t.ops ≡ n)
 
-  stops_by : (k : ℕ) (o : Option Known) (p : ℕ) (behind : Met) (s : State) (go : AnyValue → State → Outcome) → slice_get known k ≡ o → from p ≡ Wired None → met_at o k behind ≡ M.Waiting p → (behind ≡ M.Waiting p → (v : AnyValue) (t : State) → EndsAt p (go v t)) → EndsAt p (with_value (read from k s) go)
-  stops_by k None p behind s go at none h next =
-      let e = next h (s.values k) s in (e.0, ap (λ x. with_value (read_from x k s) go) (subst (SourceFits (from k) (argument values k)) at (fit.each k)) ∙ e.1)
-  stops_by k (Some Default) p behind s go at none h next =
-      let e = next h (s.values k) s in (e.0, ap (λ x. with_value (read_from x k s) go) (subst (SourceFits (from k) (argument values k)) at (fit.each k)) ∙ e.1)
-  stops_by k (Some Fixed) p behind s go at none h next =
-      let e = next h (s.values k) s in (e.0, ap (λ x. with_value (read_from x k s) go) (subst (SourceFits (from k) (argument values k)) at (fit.each k)) ∙ e.1)
-  stops_by k (Some Waiting) p behind s go at none h next =
+  stops_by : (k : ℕ) (o : Option Known) (p n : ℕ) (behind : Met) (s : State) (go : AnyValue → State → Outcome) → slice_get known k ≡ o → from p ≡ Wired None → met_at o k behind ≡ M.Waiting p → s.ops ≡ n → (behind ≡ M.Waiting p → (v : AnyValue) (t : State) → t.ops ≡ n → EndsAt p n (go v t)) → EndsAt p n (with_value (read from k s) go)
+  stops_by k None p n behind s go at none h count next =
+      let e = next h (s.values k) s count in (e.0, ap (λ x. with_value (read_from x k s) go) (subst (SourceFits (from k) (argument values k)) at (fit.each k)) ∙ e.1, e.2)
+  stops_by k (Some Default) p n behind s go at none h count next =
+      let e = next h (s.values k) s count in (e.0, ap (λ x. with_value (read_from x k s) go) (subst (SourceFits (from k) (argument values k)) at (fit.each k)) ∙ e.1, e.2)
+  stops_by k (Some Fixed) p n behind s go at none h count next =
+      let e = next h (s.values k) s count in (e.0, ap (λ x. with_value (read_from x k s) go) (subst (SourceFits (from k) (argument values k)) at (fit.each k)) ∙ e.1, e.2)
+  stops_by k (Some Waiting) p n behind s go at none h count next =
       let q : k ≡ p = cc h in
-      (s, ap (λ x. with_value (read from x s) go) q ∙ ap (λ x. with_value (read_from x p s) go) none)
-  stops_by k (Some Given) p behind s go at none h next =
-      let e = next h (argument values k) (note k s) in (e.0, ap (λ x. with_value (read_from x k s) go) (subst (SourceFits (from k) (argument values k)) at (fit.each k)) ∙ e.1)
-  stops_by k (Some Nothing) p behind s go at none h next = absurd (cc h)
+      (s, ap (λ x. with_value (read from x s) go) q ∙ ap (λ x. with_value (read_from x p s) go) none, count)
+  stops_by k (Some Given) p n behind s go at none h count next =
+      let e = next h (argument values k) (note k s) count in (e.0, ap (λ x. with_value (read_from x k s) go) (subst (SourceFits (from k) (argument values k)) at (fit.each k)) ∙ e.1, e.2)
+  stops_by k (Some Nothing) p n behind s go at none h count next = absurd (cc h)
 
-  pub arguments_stop : (ks : List ℕ) (p : ℕ) (s : State) (go : Go) → from p ≡ Wired None → met known ks ≡ M.Waiting p → EndsAt p (arguments from ks s go)
-  arguments_stop [] p s go none h = absurd (cc h)
-  arguments_stop (k ∷ ks) p s go none h =
-      stops_by k (slice_get known k) p (met known ks) s (λ v s1. arguments from ks s1 (λ vs s2. go (v ∷ vs) s2)) refl none h (λ later v t. arguments_stop ks p t (λ vs s2. go (v ∷ vs) s2) none later)
+  pub arguments_stop : (ks : List ℕ) (p n : ℕ) (s : State) (go : Go) → from p ≡ Wired None → met known ks ≡ M.Waiting p → s.ops ≡ n → EndsAt p n (arguments from ks s go)
+  arguments_stop [] p n s go none h count = absurd (cc h)
+  arguments_stop (k ∷ ks) p n s go none h count =
+      stops_by k (slice_get known k) p n (met known ks) s (λ v s1. arguments from ks s1 (λ vs s2. go (v ∷ vs) s2)) refl none h count (λ later v t same. arguments_stop ks p n t (λ vs s2. go (v ∷ vs) s2) none later same)
 
 -- ---- one symbol that is read
 

@@ -31,14 +31,18 @@ use Rattle.oso_code.specs.Ops.{type_at, type_of_symbol}
 use Rattle.oso_code.specs.Symbols.{is_parameter, parameter_fits, is_global_type, global_fits, has_value, is_value_of, metadata_fits, symbol_fits, are_parameters, is_taken}
 use Rattle.oso_code.specs.Valid.{IsValid}
 use Rattle.oso_code.proofs.Members.{and_both}
-use Rattle.osl_interp.specs.Known.{is_wired, is_given, is_wired_at, FitsAt, Fits}
-use Rattle.osl_interp.specs.Layers.{HasOneEach, InputsFit, BeginsAt, Begins, Started, run_of, MayGo}
+use Rattle.osl_interp.specs.Known.{is_wired, is_given, is_wired_at}
+use Rattle.osl_interp.specs.Known as Machine
+use Rattle.osl_interp.specs.Calls.{HasOneEach, InputsFit, begun, first_known, first_knowns}
 use Rattle.osl_interp.specs.Meaning.{Configuration, held_values, state_of, later_sections, meaning}
 use Rattle.osl_interp.specs.Ready.{IsLaid, Ready}
-use Rattle.osl_interp.specs.Starts.{known_from, knowns, parameter_slot, slot_by, first_value, AreFirst, first_configuration}
+use Rattle.osl_interp.specs.Progress.{AgreesAt, Agrees, given_reads}
+use Rattle.osl_interp.specs.Starts.{known_from, knowns, parameter_slot, slot_by, first_value, AreFirst, first_configuration, BeginsAt}
+use Rattle.osl_interp.specs.Whole.{Begins}
+use Rattle.osl_interp.specs.View.{Plan, seen_knowns, progress_of, Follows, IsRunOf}
 use Rattle.osl_interp.specs.declared.known.Known.{Known}
-use Rattle.osl_interp.specs.declared.layer_run.LayerRun.{LayerRun}
 use Rattle.osl_interp.specs.declared.layer_run.Status.TheVariants as T
+use Rattle.osl_interp.proofs.Agreeing.{knowns_first, reads_same}
 use Rattle.osl_interp.proofs.Laying.{length_values}
 use Rattle.osl_interp.proofs.Sections.{between_comes}
 
@@ -126,12 +130,17 @@ never_given (Some true) (Some v) = refl
 never_given (Some false) (Some None) = refl
 never_given (Some false) (Some (Some v)) = refl
 
-begins_fits : (input : L.Input) (w : Option Bool) (f : Option (Option Plain)) (v : AnyValue) → BeginsAt input w f → FitsAt input v (known_of w f)
-begins_fits input None f v h = tt
-begins_fits input (Some w) None v h = tt
-begins_fits input (Some true) (Some x) v h = h
-begins_fits input (Some false) (Some None) v h = h
-begins_fits input (Some false) (Some (Some x)) v h = (Of x, h)
+-- inputs that agree with what is known at the start
+begins_known : (input : L.Input) (w : Bool) (f : Option Plain) → AgreesAt input (Some (first_known w f)) → BeginsAt input (Some w) (Some f)
+begins_known input true f h = h
+begins_known input false None h = h
+begins_known input false (Some v) h = h
+
+pub begins_by : (input : L.Input) (wired : List Bool) (fixed : List (Option Plain)) (k : ℕ) → length wired ≡ length fixed → AgreesAt input (slice_get (first_knowns wired fixed) k) → BeginsAt input (slice_get wired k) (slice_get fixed k)
+begins_by input [] fixed k same h = tt
+begins_by input (w ∷ wired) [] k same h = absurd (omega (arith, same))
+begins_by input (w ∷ wired) (f ∷ fixed) zero same h = begins_known input w f h
+begins_by input (w ∷ wired) (f ∷ fixed) (suc k) same h = begins_by input wired fixed k (omega (arith, same)) h
 
 -- ---- slots, one after another
 
@@ -350,15 +359,35 @@ module _ (code : Raw) (wired : List Bool) (fixed : List (Option Plain)) (fit : I
         between_comes at_first (record { ready = ready; runs = refl; past = omega arith; last = refl }) inputs 0
         ∙ ap (later_sections inputs code 0) (state_is_start inputs begins)
 
-    first_fits : (inputs : L.Inputs) → Begins inputs wired fixed → Fits inputs (knowns wired fixed) vs
-    first_fits inputs begins = record { each = λ k. subst (FitsAt (inputs k) (argument vs k)) (sym (knowns_at wired fixed k)) (begins_fits (inputs k) (slice_get wired k) (slice_get fixed k) (argument vs k) (begins k)) }
+    abbrev plan : Plan
+    plan = record { code = code; point = point; budget = budget; fixed = fixed }
 
-    pub started : (run : LayerRun) → run_of run ≡ at_first → run.status ≡ T.Fresh → Started code fixed wired point budget run
-    started run is status =
-        record {
-          ready = record { ready = subst Ready (sym is) ready; may = subst MayGo (sym status) tt };
-          fresh = status;
-          code_is = ap (λ (c : Configuration). c.code) is;
-          agrees = λ inputs begins. subst (λ (c : Configuration). Fits inputs c.inputs c.values) (sym is) (first_fits inputs begins);
-          comes = λ inputs begins. ap (meaning inputs 0) is ∙ first_comes inputs begins;
+    begins : (inputs : L.Inputs) → Agrees inputs (seen_knowns fixed at_first) → Begins inputs wired fixed
+    begins inputs h k = begins_by (inputs k) wired fixed k lengths_same (subst (λ l. AgreesAt (inputs k) (slice_get l k)) (knowns_first wired fixed at_first refl) (h.each k))
+
+    follows : Follows plan at_first 0
+    follows = record { code = refl; ready = ready; comes = λ inputs h. first_comes inputs (begins inputs h) }
+
+    none_read : (k : ℕ) → given_reads (seen_knowns fixed at_first) k ≡ false
+    none_read k = sym (λ i. reads_same fixed at_first i k) ∙ ap is_given (knowns_at wired fixed k) ∙ never_given (slice_get wired k) (slice_get fixed k)
+
+    pub started : (slots : List Slot) (c : Configuration) → c ≡ at_first → IsRunOf plan c slots T.Fresh
+    started slots c is =
+        subst (λ x. IsRunOf plan x slots T.Fresh) (sym is)
+        (record {
+          sound = (record { reads = λ inputs h k read. let q = sym (none_read k) ∙ read in absurd (cc q); ops = λ inputs h. omega arith }, refl);
+          holds = follows;
+        })
+
+    pub seen_begun : (c : Configuration) → c ≡ at_first → progress_of plan c T.Fresh ≡ begun code fixed wired point budget
+    seen_begun c is =
+        ap (λ x. progress_of plan x T.Fresh) is
+        ∙ λ i. record {
+          code = code;
+          point = point;
+          budget = budget;
+          known = knowns_first wired fixed at_first refl i;
+          status = T.Fresh;
+          ops = 0;
+          results = None;
         }

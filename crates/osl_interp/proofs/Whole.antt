@@ -1,55 +1,65 @@
--- A run of a layer, from its start to its end, is the run of its code.
-use Rattle.std.proofs.Common.{◌≡◌, ℕ, ◌+◌, ◌-◌, List, Bool, Option, Some, None, sym, ap, ◌∙◌}
+-- What runs say of the code that they run.
+use Rattle.std.proofs.Common.{◌≡◌, ℕ, zero, suc, List, [], ◌∷◌, Option, Some, None, Bool, true, false, refl, sym, ap, ◌∙◌, subst, arith}
+use Rattle.std.specs.Prelude.{slice_get, IsSome}
 use Rattle.osl_value.specs.AnyValue.{AnyValue}
 use Rattle.osl_value.specs.Plain.{Plain}
-use Rattle.osl_value.specs.declared.point.Point.{Point}
 use Rattle.osl_layer.specs.Layer as L
-use Rattle.oso_code.specs.declared.raw.Raw.{Raw}
-use Rattle.oso_code.specs.CodeRun.{code_run, ops_run, layer_end}
-use Rattle.oso_code.specs.Run.{Outcome, last}
-use Rattle.osl_interp.specs.declared.layer_run.LayerRun.{LayerRun}
-use Rattle.osl_interp.specs.Known.{given_reads}
-use Rattle.osl_interp.specs.Layers.{Started, Begins, Needs, Gave, Done, Spends, run_of, results_of, comes_to}
-use Rattle.osl_interp.specs.Whole.{IsRunOf, EndsAsCode}
+use Rattle.osl_interp.specs.Calls.{first_knowns, gave}
+use Rattle.osl_interp.specs.Progress.{Progress, AgreesAt, Agrees, given_reads, IsWithin, IsOver, StatusSound, IsSound, whole}
+use Rattle.osl_interp.specs.Starts.{BeginsAt}
+use Rattle.osl_interp.specs.Whole.{Begins, EndsAsCode, IsPartOfCode, IsKept}
+use Rattle.osl_interp.specs.declared.layer_run.Status.{Status}
+use Rattle.osl_interp.specs.declared.layer_run.Status.TheVariants.{Fresh, Resumed, Stopped, Lost}
+use Rattle.osl_interp.specs.declared.stop.LayerStop.TheVariants.{Done, Spent, Needs}
+use Rattle.osl_interp.proofs.Calls.{agrees_after}
 
-pub starts_as_code : (code : Raw) (fixed : List (Option Plain)) (wired : List Bool) (point : Point) (budget : ℕ) (run : LayerRun) (inputs : L.Inputs)
-    → Started code fixed wired point budget run → Begins inputs wired fixed → IsRunOf code inputs point budget 0 run
-starts_as_code code fixed wired point budget run inputs started begins =
-    record { code_is = started.code_is; agrees = started.agrees inputs begins; comes = started.comes inputs begins }
+starts_at : (input : L.Input) (wired : List Bool) (fixed : List (Option Plain)) (k : ℕ) → BeginsAt input (slice_get wired k) (slice_get fixed k) → AgreesAt input (slice_get (first_knowns wired fixed) k)
+starts_at input [] fixed k h = tt
+starts_at input (w ∷ wired) [] k h = tt
+starts_at input (true ∷ wired) (f ∷ fixed) zero h = h
+starts_at input (false ∷ wired) (None ∷ fixed) zero h = h
+starts_at input (false ∷ wired) (Some v ∷ fixed) zero h = h
+starts_at input (w ∷ wired) (f ∷ fixed) (suc k) h = starts_at input wired fixed k h
 
-module _ (code : Raw) (inputs : L.Inputs) (point : Point) (budget : ℕ) where
-  pub needs_as_code : (n a b p : ℕ) (old new : LayerRun) → IsRunOf code inputs point budget n old → Needs old new a b p → IsRunOf code inputs point budget (n + (b - a)) new
-  needs_as_code n a b p old new of needs = record {
-    code_is = needs.goes.code ∙ of.code_is;
-    agrees = needs.goes.fits inputs of.agrees;
-    comes = needs.goes.same inputs of.agrees n ∙ of.comes;
-  }
+pub starts_as_code : (inputs : L.Inputs) (wired : List Bool) (fixed : List (Option Plain)) → Begins inputs wired fixed → Agrees inputs (first_knowns wired fixed)
+starts_as_code inputs wired fixed h = record { each = λ k. starts_at (inputs k) wired fixed k (h k) }
 
-  pub resumes_as_code : (n p : ℕ) (given : Option AnyValue) (old new : LayerRun) → IsRunOf code inputs point budget n old → Gave old new p given → inputs p ≡ L.From given
-      → IsRunOf code inputs point budget n new
-  resumes_as_code n p given old new of gave is =
-      let agrees = gave.agrees inputs of.agrees is in
-      record { code_is = gave.code ∙ of.code_is; agrees = agrees; comes = gave.same inputs agrees n ∙ of.comes }
+-- what is sound at a status
+sound_at : (p : Progress) (status : Status) → IsSound p → p.status ≡ status → StatusSound p status
+sound_at p status h is = subst (StatusSound p) is h
 
-  -- what a run comes to is what the code comes to
-  ends : (n a b : ℕ) (old : LayerRun) (given : Option L.LayerResults) → IsRunOf code inputs point budget n old
-      → (layer_end (run_of old).code (comes_to inputs n old)).results ≡ given
-      → (last (comes_to inputs n old)).reads ≡ given_reads (run_of old).inputs
-      → (last (comes_to inputs n old)).ops + a ≡ n + b
-      → EndsAsCode code inputs point budget given (given_reads (run_of old).inputs) n a b
-  unfolding code_run ops_run
-  ends n a b old given of gives reads ops = record {
-    results_are = ap (λ (o : Outcome). (layer_end code o).results) (sym of.comes) ∙ ap (λ c. (layer_end c (comes_to inputs n old)).results) (sym of.code_is) ∙ gives;
-    reads_are = ap (λ (o : Outcome). (last o).reads) (sym of.comes) ∙ reads;
-    ops_are = ap (λ (o : Outcome). (last o).ops + a) (sym of.comes) ∙ ops;
-  }
+pub needs_as_code : (p : Progress) (inputs : L.Inputs) (param : ℕ) → IsSound p → p.status ≡ Stopped (Needs param) → Agrees inputs p.known → (whole p inputs).reads param ≡ true
+needs_as_code p inputs param h is agrees = (sound_at p (Stopped (Needs param)) h is).1.reads inputs agrees
 
-  pub ends_as_code : (n a b : ℕ) (old new : LayerRun) → IsRunOf code inputs point budget n old → Done old new a b
-      → EndsAsCode code inputs point budget (Some (results_of new)) (given_reads (run_of old).inputs) n a b
-  ends_as_code n a b old new of done =
-      ends n a b old (Some (results_of new)) of (done.given inputs of.agrees n) (done.reads inputs of.agrees n) (done.ops inputs of.agrees n)
+pub resumes_as_code : (p : Progress) (inputs : L.Inputs) (param : ℕ) (given : Option AnyValue) → IsSound p → p.status ≡ Stopped (Needs param) → Agrees inputs p.known → inputs param ≡ L.From given → Agrees inputs (gave p param given).known
+resumes_as_code p inputs param given h is agrees from = agrees_after inputs p.known param given (sound_at p (Stopped (Needs param)) h is).1.waits agrees from
 
-  pub is_spent_as_code : (n a b : ℕ) (old new : LayerRun) → IsRunOf code inputs point budget n old → Spends old new a b
-      → EndsAsCode code inputs point budget None (given_reads (run_of old).inputs) n a b
-  is_spent_as_code n a b old new of spends =
-      ends n a b old None of (spends.given inputs of.agrees n) (spends.reads inputs of.agrees n) (spends.ops inputs of.agrees n)
+ends_so : (p : Progress) (inputs : L.Inputs) → IsOver p → Agrees inputs p.known → EndsAsCode p inputs
+ends_so p inputs over agrees =
+    record { results = ap (λ (e : L.LayerEnd). e.results) (over.ends inputs agrees); reads = ap (λ (e : L.LayerEnd). e.reads) (over.ends inputs agrees); ops = over.ops inputs agrees }
+
+pub ends_as_code : (p : Progress) (inputs : L.Inputs) → IsSound p → p.status ≡ Stopped Done → Agrees inputs p.known → EndsAsCode p inputs × IsSome p.results
+ends_as_code p inputs h is agrees = let s = sound_at p (Stopped Done) h is in (ends_so p inputs s.0 agrees, s.1)
+
+pub is_spent_as_code : (p : Progress) (inputs : L.Inputs) → IsSound p → p.status ≡ Stopped Spent → Agrees inputs p.known → EndsAsCode p inputs × (p.results ≡ None)
+is_spent_as_code p inputs h is agrees = let s = sound_at p (Stopped Spent) h is in (ends_so p inputs s.0 agrees, s.1)
+
+part : (p : Progress) (inputs : L.Inputs) → IsWithin p → Agrees inputs p.known → IsPartOfCode p inputs
+part p inputs w agrees = record { reads = w.reads inputs agrees; ops = w.ops inputs agrees }
+
+over_part : (p : Progress) (inputs : L.Inputs) → IsOver p → Agrees inputs p.known → IsPartOfCode p inputs
+over_part p inputs over agrees =
+    let e = ends_so p inputs over agrees in
+    let count = e.ops in
+    record { reads = λ k read. (λ i. e.reads i k) ∙ read; ops = omega (arith, count) }
+
+pub is_part_of_code : (p : Progress) (inputs : L.Inputs) → IsSound p → IsKept p.status → Agrees inputs p.known → IsPartOfCode p inputs
+is_part_of_code p inputs h kept agrees = by p.status h kept
+  where
+    by : (status : Status) → StatusSound p status → IsKept status → IsPartOfCode p inputs
+    by Fresh s k = part p inputs s.0 agrees
+    by (Resumed param) s k = part p inputs s agrees
+    by (Stopped Done) s k = over_part p inputs s.0 agrees
+    by (Stopped Spent) s k = over_part p inputs s.0 agrees
+    by (Stopped (Needs param)) s k = part p inputs s.0 agrees
+    by Lost s k = absurd k

@@ -1,5 +1,5 @@
 -- What a step of the machine did.
-use Rattle.std.specs.Prelude.{◌≡◌, ◌⊎◌, ℕ, ◌+◌, ◌*◌, ◌-◌, ◌<◌, ◌≤◌, List, [], ◌∷◌, Some, None, drop, length, slice_get}
+use Rattle.std.specs.Prelude.{◌≡◌, ◌⊎◌, ℕ, ◌+◌, ◌*◌, ◌-◌, ◌<◌, ◌≤◌, List, [], ◌∷◌, Option, Some, None, drop, length, slice_get}
 use Rattle.osl_layer.specs.Layer.{Inputs, From}
 use Rattle.oso_code.specs.declared.op.Section.{Section}
 use Rattle.oso_code.specs.declared.raw.Raw.{Raw}
@@ -7,7 +7,7 @@ use Rattle.oso_code.specs.Ranges.{steps_of}
 use Rattle.oso_code.specs.Run.{State, note, Outcome, Next, Jumps, Spent}
 use Rattle.oso_code.specs.Steps as S
 use Rattle.osl_interp.specs.Known.{met, Fits}
-use Rattle.osl_interp.specs.Meaning.{Configuration, state_of, comes_from, meaning}
+use Rattle.osl_interp.specs.Meaning.{Configuration, state_of, comes_from, meaning, pending}
 use Rattle.osl_interp.specs.Ready.{Ready}
 use Rattle.osl_interp.specs.declared.frame.Frame.{Frame}
 use Rattle.osl_interp.specs.declared.frame.Frame.TheVariants.{Rest, Called, Test, Body, Step}
@@ -17,8 +17,8 @@ use Rattle.osl_interp.specs.declared.frame.Mode.TheVariants as M
 use Rattle.osl_interp.specs.declared.frame.Span.{Span}
 use Rattle.osl_interp.specs.declared.known.Known.TheVariants.{Waiting}
 use Rattle.osl_interp.specs.declared.known.Met.TheVariants as Meets
-use Rattle.osl_interp.specs.declared.machine.Stop.{Stop}
-use Rattle.osl_interp.specs.declared.machine.Stop.TheVariants as T
+use Rattle.osl_interp.specs.declared.stop.LayerStop.{LayerStop}
+use Rattle.osl_interp.specs.declared.stop.LayerStop.TheVariants as T
 
 -- ---- the steps that are left at most
 
@@ -118,8 +118,8 @@ pub record Asks (c : Configuration) (p : ℕ) : Type 0 where
   pub next : (ks : List ℕ) × (ReadsNext c ks × (met c.inputs ks ≡ Meets.Waiting p))
   -- whatever p is, the run notes that it was read, before anything else is noted
   pub notes : (inputs : Inputs) → Fits inputs c.inputs c.values → (s : State) → comes_from inputs c s ≡ comes_from inputs c (note p s)
-  -- where p is nothing the run ends there
-  pub stops : (inputs : Inputs) → Fits inputs c.inputs c.values → inputs p ≡ From None → (s : State) → (t : State) × (comes_from inputs c s ≡ Spent (note p t))
+  -- where p is nothing the run ends there, and has counted the op that waits
+  pub stops : (inputs : Inputs) → Fits inputs c.inputs c.values → inputs p ≡ From None → (s : State) → (t : State) × (comes_from inputs c s ≡ Spent (note p t)) × (t.ops ≡ s.ops + pending c)
 
 abbrev pub no_op : ℕ → ℕ
 no_op n = n
@@ -127,11 +127,11 @@ no_op n = n
 abbrev pub one_op : ℕ → ℕ
 one_op n = n + 1
 
--- what a step did that counts t
-abbrev pub StopDone : (ℕ → ℕ) → Configuration → Configuration → Stop → Type 0
-StopDone t old new T.Going = Advances t old new
-StopDone t old new T.Done =
+-- what a step did that counts t: it goes on, or the run stops
+abbrev pub StopDone : (ℕ → ℕ) → Configuration → Configuration → Option LayerStop → Type 0
+StopDone t old new None = Advances t old new
+StopDone t old new (Some T.Done) =
     (new ≡ old) × ((inputs : Inputs) → Fits inputs old.inputs old.values → (n : ℕ) → EndsAs (meaning inputs n old) (state_of (t n) old))
-StopDone t old new T.Spent =
+StopDone t old new (Some T.Spent) =
     (new ≡ old) × ((inputs : Inputs) → Fits inputs old.inputs old.values → (n : ℕ) → meaning inputs n old ≡ Spent (state_of (t n) old))
-StopDone t old new (T.Needs p) = (new ≡ old) × Asks old p
+StopDone t old new (Some (T.Needs p)) = (new ≡ old) × Asks old p

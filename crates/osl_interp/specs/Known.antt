@@ -57,11 +57,6 @@ is_given (Some Nothing) = true
 abbrev pub given_reads : List Known → ℕ → Bool
 given_reads known k = is_given (slice_get known k)
 
--- what is known of a parameter that was given this
-abbrev pub known_as : Option AnyValue → Known
-known_as None = Nothing
-known_as (Some v) = Given
-
 -- an input is as it is known, where `v` is what the parameter's symbol holds
 abbrev pub FitsAt : L.Input → AnyValue → Option Known → Type 0
 FitsAt input v None = Unit

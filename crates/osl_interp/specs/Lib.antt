@@ -1,8 +1,11 @@
 pub mod Advances
+pub mod Calls
 pub mod Decoded
 pub mod Known
-pub mod Layers
 pub mod Meaning
+pub mod Progress
 pub mod Ready
 pub mod Starts
+pub mod Stops
+pub mod View
 pub mod Whole

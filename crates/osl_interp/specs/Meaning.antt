@@ -1,5 +1,5 @@
 -- What a machine still comes to, by the meaning of code.
-use Rattle.std.specs.Prelude.{ℕ, true, if◌then◌else◌, List, [], ◌∷◌, drop, filter}
+use Rattle.std.specs.Prelude.{ℕ, nat_lt, true, if◌then◌else◌, List, [], ◌∷◌, drop, filter}
 use Rattle.osl_value.specs.AnyValue.{AnyValue, argument, zero_value}
 use Rattle.osl_apply.specs.Operands.{values}
 use Rattle.osl_layer.specs.Layer.{Inputs}
@@ -109,3 +109,13 @@ comes_from inputs c s =
 -- what a machine comes to under these inputs, where n ops were run so far
 abbrev pub meaning : Inputs → ℕ → Configuration → Outcome
 meaning inputs n c = comes_from inputs c (state_of n c)
+
+-- 1 where the next op is to be counted: a range of ops is run and not at its end
+abbrev pub pending_in : Mode → ℕ → ℕ → ℕ
+pending_in M.Run at e = if nat_lt at e then 1 else 0
+pending_in M.Break at e = 0
+pending_in M.Continue at e = 0
+pending_in M.Return at e = 0
+
+abbrev pub pending : Configuration → ℕ
+pending c = pending_in c.mode c.at c.end

@@ -12,6 +12,7 @@ use Rattle.oso_code.specs.declared.symbol.Class.{Class}
 use Rattle.oso_code.specs.declared.symbol.Class.TheVariants.{Param, Oparam, Global, Const, Local, Temp}
 use Rattle.oso_code.specs.declared.symbol.Symbol.{Symbol}
 use Rattle.osl_layer.specs.Globals.{global_named}
+use Rattle.osl_layer.specs.Layer as L
 use Rattle.osl_interp.specs.declared.known.Known.{Known}
 use Rattle.osl_interp.specs.declared.known.Known.TheVariants as K
 use Rattle.osl_interp.specs.declared.frame.Mode.TheVariants as M
@@ -64,6 +65,14 @@ first_configuration code wired fixed budget values = record {
   end = 0;
   section = 0;
 }
+
+-- the inputs of a run of which these are connected, and these are instance values
+abbrev pub BeginsAt : L.Input → Option Bool → Option (Option Plain) → Type 0
+BeginsAt input None fixed = Unit
+BeginsAt input (Some true) fixed = (given : Option AnyValue) × (input ≡ L.From given)
+BeginsAt input (Some false) None = Unit
+BeginsAt input (Some false) (Some None) = input ≡ L.Default
+BeginsAt input (Some false) (Some (Some v)) = input ≡ L.Fixed (Of v)
 
 -- ---- whether instance values and connections fit a shader
 

@@ -1,20 +1,30 @@
--- A run of a layer, from its start to its end, is the run of its code.
-use Rattle.std.specs.Prelude.{◌≡◌, ℕ, ◌+◌, Bool, Option}
-use Rattle.osl_value.specs.declared.point.Point.{Point}
+-- A run of a layer against the run of its code.
+use Rattle.std.specs.Prelude.{◌≡◌, ℕ, ◌≤◌, Bool, true, List, Option, slice_get}
+use Rattle.osl_value.specs.Plain.{Plain}
 use Rattle.osl_layer.specs.Layer as L
-use Rattle.oso_code.specs.declared.raw.Raw.{Raw}
-use Rattle.oso_code.specs.CodeRun.{code_run, ops_run, layer_run}
-use Rattle.osl_interp.specs.Layers.{run_of, Agrees, comes_to}
-use Rattle.osl_interp.specs.declared.layer_run.LayerRun.{LayerRun}
+use Rattle.osl_interp.specs.Progress.{Progress, given_reads, whole, whole_ops}
+use Rattle.osl_interp.specs.Starts.{BeginsAt}
+use Rattle.osl_interp.specs.declared.layer_run.Status.{Status}
+use Rattle.osl_interp.specs.declared.layer_run.Status.TheVariants.{Fresh, Resumed, Stopped, Lost}
 
--- a run of this code, which has run n ops so far, and still comes to what the code comes to from its beginning
-pub record IsRunOf (code : Raw) (inputs : L.Inputs) (point : Point) (budget n : ℕ) (run : LayerRun) : Type 0 where
-  pub code_is : (run_of run).code ≡ code
-  pub agrees : Agrees inputs run
-  pub comes : comes_to inputs n run ≡ layer_run code inputs point budget
+-- the inputs of a layer of which these are connected, and these are instance values
+abbrev pub Begins : L.Inputs → List Bool → List (Option Plain) → Type 0
+Begins inputs wired fixed = (k : ℕ) → BeginsAt (inputs k) (slice_get wired k) (slice_get fixed k)
 
--- the run of the code gives this and reads these parameters, and its ops are n with those that a count rose by, from a to b
-pub record EndsAsCode (code : Raw) (inputs : L.Inputs) (point : Point) (budget : ℕ) (results : Option L.LayerResults) (reads : ℕ → Bool) (n a b : ℕ) : Type 0 where
-  pub results_are : (code_run code inputs point budget).results ≡ results
-  pub reads_are : (code_run code inputs point budget).reads ≡ reads
-  pub ops_are : ops_run code inputs point budget + a ≡ n + b
+-- the run of the code gives this, reads what was read, and counts what was counted
+pub record EndsAsCode (p : Progress) (inputs : L.Inputs) : Type 0 where
+  pub results : (whole p inputs).results ≡ p.results
+  pub reads : (whole p inputs).reads ≡ given_reads p.known
+  pub ops : whole_ops p inputs ≡ p.ops
+
+-- the run of the code reads what was read, and counts no less than was counted
+pub record IsPartOfCode (p : Progress) (inputs : L.Inputs) : Type 0 where
+  pub reads : (k : ℕ) → given_reads p.known k ≡ true → (whole p inputs).reads k ≡ true
+  pub ops : p.ops ≤ whole_ops p inputs
+
+-- memory did not run out
+abbrev pub IsKept : Status → Type 0
+IsKept Fresh = Unit
+IsKept (Resumed param) = Unit
+IsKept (Stopped stop) = Unit
+IsKept Lost = ⊥

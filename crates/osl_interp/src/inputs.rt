@@ -1,7 +1,7 @@
 //! Whether instance values and connections fit a shader.
 
 ghost use Rattle.std.specs.Prelude.{◌≡◌, ◌↔◌, IsTrue, option_map, slice_get};
-ghost use Rattle.osl_interp.specs.Layers.{InputsFit};
+ghost use Rattle.osl_interp.specs.Calls.{InputsFit};
 ghost use Rattle.osl_interp.specs.Starts.{is_input, has_type, entry_fits, EntriesFit};
 
 use osl_value::{LayerValues, Ty, Value};

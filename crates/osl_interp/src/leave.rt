@@ -7,8 +7,9 @@ ghost use Rattle.osl_interp.specs.Ready.{Ready};
 
 use crate::frame::{Frame, LoopOp, Mode, Span};
 use crate::known::{Met, first_met, is_run};
-use crate::machine::{Machine, Stop};
+use crate::machine::Machine;
 use crate::ops::{enter, is_true};
+use crate::stop::LayerStop;
 use osl_value::Memory;
 use oso_code::Section;
 
@@ -65,7 +66,7 @@ fn called_step<'a>(m: &mut Machine<'a>, rest: Span)
 }
 
 /// A loop's condition was computed: the loop ends, or a turn of it begins.
-fn tested_step<'a>(m: &mut Machine<'a>, repeat: LoopOp, end: u32) -> Result<Stop, Memory>
+fn tested_step<'a>(m: &mut Machine<'a>, repeat: LoopOp, end: u32) -> Result<Option<LayerStop>, Memory>
     requires top { IsLast (Frame.Test repeat end) m.old.frames.items }
     requires ready { Ready (configuration m.old) }
     requires runs { m.old.mode ≡ Mode.Run }
@@ -73,22 +74,22 @@ fn tested_step<'a>(m: &mut Machine<'a>, repeat: LoopOp, end: u32) -> Result<Stop
     ensures { IfOk result (λ stop. StopDone no_op (configuration m.old) (configuration m.new) stop) }
 {
     match first_met(&m.inputs, &[repeat.condition]) {
-        Met::Waiting(p) => return Ok(Stop::Needs(p)),
-        Met::Missing => return Ok(Stop::Spent),
+        Met::Waiting(p) => return Ok(Some(LayerStop::Needs(p))),
+        Met::Missing => return Ok(Some(LayerStop::Spent)),
         Met::All => {}
     }
     if !is_true(&m.slots[repeat.condition as usize]) {
         take(m, Frame::Test(repeat, end));
         go_on(m, behind(repeat, end));
-        return Ok(Stop::Going);
+        return Ok(None);
     }
     if m.turns == 0 {
-        return Ok(Stop::Spent);
+        return Ok(Some(LayerStop::Spent));
     }
     take(m, Frame::Test(repeat, end));
     m.turns -= 1;
     enter(m, Frame::Body(repeat, end), repeat.body)?;
-    Ok(Stop::Going)
+    Ok(None)
 }
 
 /// The rest of the range around a loop.
@@ -102,7 +103,7 @@ fn behind(repeat: LoopOp, end: u32) -> Span
 }
 
 /// The range of a loop's condition is over or left.
-fn test_step<'a>(m: &mut Machine<'a>, repeat: LoopOp, end: u32) -> Result<Stop, Memory>
+fn test_step<'a>(m: &mut Machine<'a>, repeat: LoopOp, end: u32) -> Result<Option<LayerStop>, Memory>
     requires top { IsLast (Frame.Test repeat end) m.old.frames.items }
     requires ready { Ready (configuration m.old) }
     requires past { m.old.mode ≡ Mode.Run → m.old.end ≤ m.old.at }
@@ -112,13 +113,13 @@ fn test_step<'a>(m: &mut Machine<'a>, repeat: LoopOp, end: u32) -> Result<Stop, 
         Mode::Run => tested_step(m, repeat, end),
         Mode::Break | Mode::Continue | Mode::Return => {
             take(m, Frame::Test(repeat, end));
-            Ok(Stop::Going)
+            Ok(None)
         }
     }
 }
 
 /// A loop's body is over or left.
-fn body_step<'a>(m: &mut Machine<'a>, repeat: LoopOp, end: u32) -> Result<Stop, Memory>
+fn body_step<'a>(m: &mut Machine<'a>, repeat: LoopOp, end: u32) -> Result<Option<LayerStop>, Memory>
     requires top { IsLast (Frame.Body repeat end) m.old.frames.items }
     requires ready { Ready (configuration m.old) }
     requires past { m.old.mode ≡ Mode.Run → m.old.end ≤ m.old.at }
@@ -133,11 +134,11 @@ fn body_step<'a>(m: &mut Machine<'a>, repeat: LoopOp, end: u32) -> Result<Stop, 
         Mode::Break => go_on(m, behind(repeat, end)),
         Mode::Return => {}
     }
-    Ok(Stop::Going)
+    Ok(None)
 }
 
 /// A loop's step is over or left.
-fn step_step<'a>(m: &mut Machine<'a>, repeat: LoopOp, end: u32) -> Result<Stop, Memory>
+fn step_step<'a>(m: &mut Machine<'a>, repeat: LoopOp, end: u32) -> Result<Option<LayerStop>, Memory>
     requires top { IsLast (Frame.Step repeat end) m.old.frames.items }
     requires ready { Ready (configuration m.old) }
     requires past { m.old.mode ≡ Mode.Run → m.old.end ≤ m.old.at }
@@ -148,7 +149,7 @@ fn step_step<'a>(m: &mut Machine<'a>, repeat: LoopOp, end: u32) -> Result<Stop, 
         Mode::Run => enter(m, Frame::Test(repeat, end), repeat.test)?,
         Mode::Break | Mode::Continue | Mode::Return => {}
     }
-    Ok(Stop::Going)
+    Ok(None)
 }
 
 fn section_at(sections: &[Section], k: usize) -> Option<Section>
@@ -161,7 +162,7 @@ fn section_at(sections: &[Section], k: usize) -> Option<Section>
 }
 
 /// A section is over: the next one is run or passed over.
-fn section_step<'a>(m: &mut Machine<'a>) -> Stop
+fn section_step<'a>(m: &mut Machine<'a>) -> Option<LayerStop>
     requires ready { Ready (configuration m.old) }
     requires runs { m.old.mode ≡ Mode.Run }
     requires past { m.old.end ≤ m.old.at }
@@ -169,18 +170,18 @@ fn section_step<'a>(m: &mut Machine<'a>) -> Stop
     ensures { StopDone no_op (configuration m.old) (configuration m.new) result }
 {
     let Some(section) = section_at(m.code.sections.as_slice(), m.section) else {
-        return Stop::Done;
+        return Some(LayerStop::Done);
     };
     m.section += 1;
     if is_run(&m.inputs, section.param) {
         m.at = section.start;
         m.end = section.end;
     }
-    Stop::Going
+    None
 }
 
 /// A section is over or left.
-fn end_step<'a>(m: &mut Machine<'a>) -> Stop
+fn end_step<'a>(m: &mut Machine<'a>) -> Option<LayerStop>
     requires ready { Ready (configuration m.old) }
     requires past { m.old.mode ≡ Mode.Run → m.old.end ≤ m.old.at }
     requires last { m.old.frames.items ≡ [] }
@@ -188,12 +189,12 @@ fn end_step<'a>(m: &mut Machine<'a>) -> Stop
 {
     match m.mode {
         Mode::Run => section_step(m),
-        Mode::Break | Mode::Continue | Mode::Return => Stop::Done,
+        Mode::Break | Mode::Continue | Mode::Return => Some(LayerStop::Done),
     }
 }
 
 /// Leaves the innermost range, whose end is reached or which is left.
-pub fn leave<'a>(m: &mut Machine<'a>) -> Result<Stop, Memory>
+pub fn leave<'a>(m: &mut Machine<'a>) -> Result<Option<LayerStop>, Memory>
     requires ready { Ready (configuration m.old) }
     requires past { m.old.mode ≡ Mode.Run → m.old.end ≤ m.old.at }
     ensures { IfOk result (λ stop. StopDone no_op (configuration m.old) (configuration m.new) stop) }
@@ -202,11 +203,11 @@ pub fn leave<'a>(m: &mut Machine<'a>) -> Result<Stop, Memory>
         None => Ok(end_step(m)),
         Some(Frame::Rest(rest)) => {
             rest_step(m, rest);
-            Ok(Stop::Going)
+            Ok(None)
         }
         Some(Frame::Called(rest)) => {
             called_step(m, rest);
-            Ok(Stop::Going)
+            Ok(None)
         }
         Some(Frame::Test(repeat, end)) => test_step(m, repeat, end),
         Some(Frame::Body(repeat, end)) => body_step(m, repeat, end),

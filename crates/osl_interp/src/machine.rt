@@ -32,14 +32,3 @@ pub struct Machine<'a> {
     /// The next section.
     pub section: usize,
 }
-
-/// What a step came to.
-#[derive(Clone, Copy, Debug, PartialEq, Eq)]
-pub enum Stop {
-    /// The run goes on.
-    Going,
-    Done,
-    Spent,
-    /// It is at the read of a connected parameter that was not given.
-    Needs(u32),
-}

@@ -15,7 +15,8 @@ ghost use Rattle.osl_interp.specs.Ready.{Ready};
 use crate::decode::{Step, Way, decode};
 use crate::frame::{Frame, LoopOp, Mode, Span};
 use crate::known::{Met, first_met};
-use crate::machine::{Machine, Stop};
+use crate::machine::Machine;
+use crate::stop::LayerStop;
 use bumpalo::Bump;
 use osl_apply::{Slot, execute};
 use osl_value::{Memory, OpName};
@@ -45,7 +46,7 @@ fn compute<'a>(
     name: OpName,
     target: u32,
     sources: &[u32],
-) -> Result<Stop, Memory>
+) -> Result<Option<LayerStop>, Memory>
     requires ready { Ready (configuration m.old) }
     requires runs { m.old.mode ≡ Mode.Run }
     requires inside { m.old.at < m.old.end }
@@ -53,12 +54,12 @@ fn compute<'a>(
     ensures { IfOk result (λ stop. StopDone one_op (configuration m.old) (configuration m.new) stop) }
 {
     match first_met(&m.inputs, sources) {
-        Met::Waiting(p) => Ok(Stop::Needs(p)),
-        Met::Missing => Ok(Stop::Spent),
+        Met::Waiting(p) => Ok(Some(LayerStop::Needs(p))),
+        Met::Missing => Ok(Some(LayerStop::Spent)),
         Met::All => {
             execute(m.alloc, arena, &mut m.slots, name, target, sources)?;
             m.at += 1;
-            Ok(Stop::Going)
+            Ok(None)
         }
     }
 }
@@ -71,7 +72,7 @@ fn side(is_so: bool, holds: Span, fails: Span) -> Span
 }
 
 /// A condition, and the range of the side that is taken.
-fn branch<'a>(m: &mut Machine<'a>, c: u32, holds: Span, fails: Span) -> Result<Stop, Memory>
+fn branch<'a>(m: &mut Machine<'a>, c: u32, holds: Span, fails: Span) -> Result<Option<LayerStop>, Memory>
     requires ready { Ready (configuration m.old) }
     requires runs { m.old.mode ≡ Mode.Run }
     requires inside { m.old.at < m.old.end }
@@ -79,8 +80,8 @@ fn branch<'a>(m: &mut Machine<'a>, c: u32, holds: Span, fails: Span) -> Result<S
     ensures { IfOk result (λ stop. StopDone one_op (configuration m.old) (configuration m.new) stop) }
 {
     match first_met(&m.inputs, &[c]) {
-        Met::Waiting(p) => Ok(Stop::Needs(p)),
-        Met::Missing => Ok(Stop::Spent),
+        Met::Waiting(p) => Ok(Some(LayerStop::Needs(p))),
+        Met::Missing => Ok(Some(LayerStop::Spent)),
         Met::All => {
             let side = side(is_true(&m.slots[c as usize]), holds, fails);
             let rest = Span {
@@ -88,13 +89,13 @@ fn branch<'a>(m: &mut Machine<'a>, c: u32, holds: Span, fails: Span) -> Result<S
                 end: m.end,
             };
             enter(m, Frame::Rest(rest), side)?;
-            Ok(Stop::Going)
+            Ok(None)
         }
     }
 }
 
 /// A loop that tests its condition first.
-fn test_first<'a>(m: &mut Machine<'a>, repeat: LoopOp) -> Result<Stop, Memory>
+fn test_first<'a>(m: &mut Machine<'a>, repeat: LoopOp) -> Result<Option<LayerStop>, Memory>
     requires ready { Ready (configuration m.old) }
     requires runs { m.old.mode ≡ Mode.Run }
     requires inside { m.old.at < m.old.end }
@@ -103,11 +104,11 @@ fn test_first<'a>(m: &mut Machine<'a>, repeat: LoopOp) -> Result<Stop, Memory>
 {
     let end = m.end;
     enter(m, Frame::Test(repeat, end), repeat.test)?;
-    Ok(Stop::Going)
+    Ok(None)
 }
 
 /// A loop that begins with a turn.
-fn turn_first<'a>(m: &mut Machine<'a>, repeat: LoopOp) -> Result<Stop, Memory>
+fn turn_first<'a>(m: &mut Machine<'a>, repeat: LoopOp) -> Result<Option<LayerStop>, Memory>
     requires ready { Ready (configuration m.old) }
     requires runs { m.old.mode ≡ Mode.Run }
     requires inside { m.old.at < m.old.end }
@@ -115,15 +116,15 @@ fn turn_first<'a>(m: &mut Machine<'a>, repeat: LoopOp) -> Result<Stop, Memory>
     ensures { IfOk result (λ stop. StopDone one_op (configuration m.old) (configuration m.new) stop) }
 {
     if m.turns == 0 {
-        return Ok(Stop::Spent);
+        return Ok(Some(LayerStop::Spent));
     }
     m.turns -= 1;
     let end = m.end;
     enter(m, Frame::Body(repeat, end), repeat.body)?;
-    Ok(Stop::Going)
+    Ok(None)
 }
 
-fn call<'a>(m: &mut Machine<'a>, body: Span) -> Result<Stop, Memory>
+fn call<'a>(m: &mut Machine<'a>, body: Span) -> Result<Option<LayerStop>, Memory>
     requires ready { Ready (configuration m.old) }
     requires runs { m.old.mode ≡ Mode.Run }
     requires inside { m.old.at < m.old.end }
@@ -135,11 +136,11 @@ fn call<'a>(m: &mut Machine<'a>, body: Span) -> Result<Stop, Memory>
         end: m.end,
     };
     enter(m, Frame::Called(rest), body)?;
-    Ok(Stop::Going)
+    Ok(None)
 }
 
 /// A way out of ranges, or of the layer.
-fn leave_by<'a>(m: &mut Machine<'a>, way: Way) -> Stop
+fn leave_by<'a>(m: &mut Machine<'a>, way: Way) -> Option<LayerStop>
     requires ready { Ready (configuration m.old) }
     requires runs { m.old.mode ≡ Mode.Run }
     requires inside { m.old.at < m.old.end }
@@ -150,13 +151,13 @@ fn leave_by<'a>(m: &mut Machine<'a>, way: Way) -> Stop
         Way::Break => m.mode = Mode::Break,
         Way::Continue => m.mode = Mode::Continue,
         Way::Return => m.mode = Mode::Return,
-        Way::Exit => return Stop::Done,
+        Way::Exit => return Some(LayerStop::Done),
     }
-    Stop::Going
+    None
 }
 
 /// Runs the op at the machine's place, or enters its ranges.
-pub fn op_step<'a>(m: &mut Machine<'a>, arena: &'a Bump) -> Result<Stop, Memory>
+pub fn op_step<'a>(m: &mut Machine<'a>, arena: &'a Bump) -> Result<Option<LayerStop>, Memory>
     requires ready { Ready (configuration m.old) }
     requires runs { m.old.mode ≡ Mode.Run }
     requires inside { m.old.at < m.old.end }

@@ -5,7 +5,7 @@ ghost use Rattle.osl_value.specs.AnyValue.{argument, parts_of};
 ghost use Rattle.osl_apply.specs.Operands.{values};
 ghost use Rattle.osl_apply.specs.Slots.{seen, is_kept};
 ghost use Rattle.oso_code.specs.CodeRun.{is_ci, closure_from};
-ghost use Rattle.osl_interp.specs.Layers.{AreKept};
+ghost use Rattle.osl_interp.specs.Stops.{AreKept};
 ghost use Rattle.osl_interp.specs.Meaning.{configuration};
 ghost use Rattle.osl_interp.specs.Ready.{IsLaid};
 
@@ -66,7 +66,7 @@ fn closure_in<'a>(slot: &Slot<'a>) -> Node<'a>
 }
 
 /// The closure that the global `Ci` holds, empty where the code does not name it.
-pub fn closure_of<'a>(symbols: &[Symbol], slots: &[Slot<'a>]) -> Node<'a>
+pub fn closure_in_slots<'a>(symbols: &[Symbol], slots: &[Slot<'a>]) -> Node<'a>
     requires { length symbols.now ≡ length slots.now }
     ensures { result ≡ closure_from 0 symbols.now (argument (values slots.now)) }
 {

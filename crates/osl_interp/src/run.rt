@@ -1,26 +1,20 @@
 //! Steps, one after another.
 
-ghost use Rattle.std.specs.Prelude.{true, false, ◌≡◌, ◌≤◌, ◌<◌, IfOk, OnErr};
-ghost use Rattle.osl_interp.specs.Layers.{StepDone, RunDone, Counted};
+ghost use Rattle.std.specs.Prelude.{true, false, ◌≡◌, ◌+◌, ◌≤◌, ◌<◌, IfOk, OnErr};
+ghost use Rattle.osl_interp.specs.Stops.{StepDone, EndDone, KeptAt, Counted, ticks_at};
 ghost use Rattle.osl_interp.specs.Meaning.{configuration};
 ghost use Rattle.osl_interp.specs.Ready.{Ready};
 
 use crate::frame::Mode;
 use crate::leave::leave;
-use crate::machine::{Machine, Stop};
+use crate::machine::Machine;
 use crate::ops::op_step;
+use crate::outputs::settle;
 use crate::steps::Steps;
+use crate::stop::LayerStop;
 use bumpalo::Bump;
 use osl_value::Memory;
 use std::sync::ledger::Ledger;
-
-/// How a run stops.
-#[derive(Clone, Copy, Debug, PartialEq, Eq)]
-pub enum End {
-    Done,
-    Spent,
-    Needs(u32),
-}
 
 /// Whether an op is to be run, and no range is left.
 fn is_running<'a>(m: &Machine<'a>) -> bool
@@ -33,12 +27,22 @@ fn is_running<'a>(m: &Machine<'a>) -> bool
     }
 }
 
+/// Counts an op at which the run stops: one that waits is counted when it is run.
+fn tick_at<L: Ledger>(stop: LayerStop, ops: &mut Steps<L>)
+    ensures { ops.new ≡ ops.old + ticks_at stop }
+{
+    match stop {
+        LayerStop::Done | LayerStop::Spent => ops.tick(),
+        LayerStop::Needs(_) => {}
+    }
+}
+
 /// One step: an op, which counts unless it waits, or the end of a range.
 fn step<'a, L: Ledger>(
     m: &mut Machine<'a>,
     arena: &'a Bump,
     ops: &mut Steps<L>,
-) -> Result<Stop, Memory>
+) -> Result<Option<LayerStop>, Memory>
     requires { Ready (configuration m.old) }
     ensures stop { IfOk result (λ stop. StepDone (configuration m.old) (configuration m.new) ops.old ops.new stop) }
     ensures err { OnErr result (ops.new ≡ ops.old) }
@@ -48,19 +52,14 @@ fn step<'a, L: Ledger>(
         return Ok(stop);
     }
     match op_step(m, arena)? {
-        Stop::Going => {
+        None => {
             ops.tick();
-            Ok(Stop::Going)
+            Ok(None)
         }
-        Stop::Done => {
-            ops.tick();
-            Ok(Stop::Done)
+        Some(stop) => {
+            tick_at(stop, ops);
+            Ok(Some(stop))
         }
-        Stop::Spent => {
-            ops.tick();
-            Ok(Stop::Spent)
-        }
-        Stop::Needs(p) => Ok(Stop::Needs(p)),
     }
 }
 
@@ -69,17 +68,35 @@ pub fn run<'a, L: Ledger>(
     m: &mut Machine<'a>,
     arena: &'a Bump,
     ops: &mut Steps<L>,
-) -> Result<End, Memory>
+) -> Result<LayerStop, Memory>
     requires { Ready (configuration m.old) }
-    ensures end { IfOk result (λ end. RunDone (configuration m.old) (configuration m.new) ops.old ops.new end) }
+    ensures end { IfOk result (λ stop. EndDone (configuration m.old) (configuration m.new) ops.old ops.new stop) }
     ensures ops { Counted (configuration m.old) ops.old ops.new }
 {
     'steps: loop {
-        match step(m, arena, ops)? {
-            Stop::Going => {}
-            Stop::Done => return Ok(End::Done),
-            Stop::Spent => return Ok(End::Spent),
-            Stop::Needs(p) => return Ok(End::Needs(p)),
+        if let Some(stop) = step(m, arena, ops)? {
+            return Ok(stop);
         }
+    }
+}
+
+/// Runs likewise, and keeps the outputs of a run that is over as values that can be lent.
+pub fn run_on<'a, L: Ledger>(
+    m: &mut Machine<'a>,
+    arena: &'a Bump,
+    ops: &mut Steps<L>,
+) -> Result<LayerStop, Memory>
+    requires { Ready (configuration m.old) }
+    ensures end { IfOk result (λ stop. EndDone (configuration m.old) (configuration m.new) ops.old ops.new stop) }
+    ensures kept { IfOk result (λ stop. KeptAt stop m.new.code.now.symbols m.new.slots.items) }
+    ensures ops { Counted (configuration m.old) ops.old ops.new }
+{
+    match run(m, arena, ops)? {
+        LayerStop::Done => {
+            settle(m)?;
+            Ok(LayerStop::Done)
+        }
+        LayerStop::Spent => Ok(LayerStop::Spent),
+        LayerStop::Needs(p) => Ok(LayerStop::Needs(p)),
     }
 }

@@ -2,8 +2,7 @@
 //! exact arithmetic.
 
 ghost use Rattle.std.specs.Prelude.{◌≡◌, ◌<◌, true, IfOk, IfSome, OnOk};
-ghost use Rattle.oso_code.specs.Ops.{type_at};
-ghost use Rattle.osl_interp.specs.Layers.{IsReady, IsAsking, IsDone, IsOutput, HasType, input_of, run_of};
+ghost use Rattle.osl_interp.specs.Calls.{MayGo};
 
 mod closures;
 mod control;
@@ -12,9 +11,9 @@ mod inputs;
 mod operations;
 
 use bumpalo::Bump;
-use osl_interp::{Given, LayerRun, LayerStop, OutRef, Steps, inputs_fit};
-use osl_value::{Base, Fx, LayerValues, Memory, Point, Ty};
-use oso_code::{Class, Shader};
+use osl_interp::{Given, LayerRun, LayerStop, OutRef, Status, Steps, inputs_fit};
+use osl_value::{Fx, LayerValues, Memory, Point};
+use oso_code::Shader;
 use std::alloc::Global;
 use std::marker::Brand;
 use std::sync::ledger::{Blank, Ledger};
@@ -41,7 +40,7 @@ fn point() -> Point {
 }
 
 fn begun<'a>(alloc: Global, layer: &Layer<'a>) -> Result<LayerRun<'a>, Memory>
-    ensures { IfOk result IsReady }
+    ensures { IfOk result (λ run. MayGo run.status) }
 {
     if !inputs_fit(layer.shader, layer.fixed, layer.wired) {
         return Err(Memory);
@@ -57,31 +56,12 @@ fn begun<'a>(alloc: Global, layer: &Layer<'a>) -> Result<LayerRun<'a>, Memory>
     Ok(run)
 }
 
-fn is_of_type(run: &LayerRun<'_>, param: u32, ty: Ty) -> bool
-    ensures { result ≡ true → ty ≡ type_at (run_of run.now).code.symbols param }
-{
-    match run.machine.code.symbols.as_slice().get(param as usize) {
-        Some(symbol) => symbol.ty == ty,
-        None => false,
-    }
-}
-
-fn has_type(run: &LayerRun<'_>, param: u32, given: &Given<'_, '_>) -> bool
-    ensures { result ≡ true → HasType (run_of run.now).code param (input_of given.now) }
-{
-    match given {
-        Given::Value(value) => is_of_type(run, param, value.ty()),
-        Given::Closure(_) => is_of_type(run, param, Ty::only(Base::Closure)),
-        Given::Nothing => true,
-    }
-}
-
 /// Gives a run what it waits for.
 fn give<'a>(run: &mut LayerRun<'a>, param: u32, given: &Given<'_, 'a>) -> Result<(), Memory>
-    requires { IsAsking run.old param }
-    ensures { OnOk result (IsReady run.new) }
+    requires { run.old.status ≡ Status.Stopped (LayerStop.Needs param) }
+    ensures { OnOk result (MayGo run.new.status) }
 {
-    if !has_type(run, param, given) {
+    if !run.accepts(param, given) {
         return Err(Memory);
     }
     match given {
@@ -101,8 +81,8 @@ fn finish<'a, L: Ledger, M: Ledger>(
     layers: &mut Steps<L>,
     ops: &mut Steps<M>,
 ) -> Result<bool, Memory>
-    requires { IsReady run.old }
-    ensures { IfOk result (λ done. done ≡ true → IsDone run.new) }
+    requires { MayGo run.old.status }
+    ensures { IfOk result (λ done. done ≡ true → run.new.status ≡ Status.Stopped LayerStop.Done) }
 {
     for _turn in 0..9 {
         match run.go(arena, layers, ops)? {
@@ -128,12 +108,12 @@ fn counted<'a, L: Ledger, M: Ledger>(
     layers: Blank,
     ops: Blank,
 ) -> Result<bool, Memory>
-    requires ready { IsReady run.old }
+    requires ready { MayGo run.old.status }
     requires layers { (layers.name ≡ L.name) × (layers.parts ≡ L.parts) }
     requires layers_parts { 0 < L.parts }
     requires ops { (ops.name ≡ M.name) × (ops.parts ≡ M.parts) }
     requires ops_parts { 0 < M.parts }
-    ensures { IfOk result (λ done. done ≡ true → IsDone run.new) }
+    ensures { IfOk result (λ done. done ≡ true → run.new.status ≡ Status.Stopped LayerStop.Done) }
 {
     let mut layers: Steps<L> = Steps::new(layers);
     let mut ops: Steps<M> = Steps::new(ops);
@@ -148,7 +128,7 @@ pub fn ended<'a>(
     entries: &[Given<'_, 'a>],
     asked: &mut Vec<u32>,
 ) -> Result<Option<LayerRun<'a>>, Memory>
-    ensures { IfOk result (λ run. IfSome run IsDone) }
+    ensures { IfOk result (λ run. IfSome run (λ run. run.status ≡ Status.Stopped LayerStop.Done)) }
 {
     let mut run = begun(alloc, layer)?;
     let is_done = counted::<Brand, Brand>(
@@ -162,20 +142,11 @@ pub fn ended<'a>(
     if is_done { Ok(Some(run)) } else { Ok(None) }
 }
 
-fn is_output(run: &LayerRun<'_>, param: u32) -> bool
-    ensures { result ≡ true → IsOutput (run_of run.now).code param }
-{
-    match run.machine.code.symbols.as_slice().get(param as usize) {
-        Some(symbol) => symbol.class == Class::Oparam,
-        None => false,
-    }
-}
-
 /// An output of a run that is done, or none where the parameter is no output.
 pub fn output<'s, 'a>(run: &'s LayerRun<'a>, param: u32) -> Option<OutRef<'s, 'a>>
-    requires { IsDone run.now }
+    requires { run.now.status ≡ Status.Stopped LayerStop.Done }
 {
-    if is_output(run, param) {
+    if run.is_output(param) {
         Some(run.output(param))
     } else {
         None

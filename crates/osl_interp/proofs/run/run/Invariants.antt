@@ -1,5 +1,5 @@
 use Rattle.osl_interp.specs.Advances.{work}
-use Rattle.osl_interp.specs.Layers.{Goes}
+use Rattle.osl_interp.specs.Stops.{Goes}
 use Rattle.osl_interp.specs.Meaning.{configuration}
 use Rattle.osl_interp.proofs.run.run.Given as goal
 
