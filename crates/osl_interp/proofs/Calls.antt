@@ -281,12 +281,15 @@ module _ (r : Inside) (v : Progress) (is : progress r ≡ v) (run : IsRun r) whe
     abbrev pub left : Configuration
     left = record (configuration r.machine) { inputs = slice_set (configuration r.machine).inputs p known; values = slice_set (configuration r.machine).values p w }
 
-    pub given_run : (slots : List Slot) → IsRunOf (plan_of r) left slots (Resumed p)
-    given_run slots = gave_run (plan_of r) (configuration r.machine) r.machine.slots.items p (holds_at (Stopped (Needs p)) asks) given known w as_given typed slots
+    pub given_run : (slots : List Slot) (d : Configuration) → d ≡ left → IsRunOf (plan_of r) d slots (Resumed p)
+    given_run slots d there =
+        subst (λ x. IsRunOf (plan_of r) x slots (Resumed p)) (sym there)
+        (gave_run (plan_of r) (configuration r.machine) r.machine.slots.items p (holds_at (Stopped (Needs p)) asks) given known w as_given typed slots)
 
-    pub given_seen : progress_of (plan_of r) left (Resumed p) ≡ gave v p given
-    given_seen =
-        seen_gave (plan_of r) (configuration r.machine) r.machine.slots.items p (holds_at (Stopped (Needs p)) asks) given known w as_given typed
+    pub given_seen : (d : Configuration) → d ≡ left → progress_of (plan_of r) d (Resumed p) ≡ gave v p given
+    given_seen d there =
+        ap (λ x. progress_of (plan_of r) x (Resumed p)) there
+        ∙ seen_gave (plan_of r) (configuration r.machine) r.machine.slots.items p (holds_at (Stopped (Needs p)) asks) given known w as_given typed
         ∙ ap (λ x. gave x p given) (seen_as (Stopped (Needs p)) asks)
 
   -- it is done

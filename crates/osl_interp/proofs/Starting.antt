@@ -262,6 +262,9 @@ slot_type symbol w f point Const h is typed = stated_type symbol.ty (has_value s
 slot_type symbol w f point Local h is typed = zero_type symbol.ty h.is_type
 slot_type symbol w f point Temp h is typed = zero_type symbol.ty h.is_type
 
+abbrev pub plan_with : Raw → Point → ℕ → List (Option Plain) → Plan
+plan_with code point budget fixed = record { code = code; point = point; budget = budget; fixed = fixed }
+
 -- ---- values at the start
 
 -- where entries are those of a parameter, a slot holds what the symbol starts with
@@ -391,3 +394,7 @@ module _ (code : Raw) (wired : List Bool) (fixed : List (Option Plain)) (fit : I
           ops = 0;
           results = None;
         }
+
+pub same_plan : (code : Raw) (p q : Point) (b d : ℕ) (f g : List (Option Plain)) → p ≡ q → b ≡ d → f ≡ g
+    → plan_with code p b f ≡ plan_with code q d g
+same_plan code p q b d f g hp hb hf = λ i. plan_with code (hp i) (hb i) (hf i)
