@@ -94,7 +94,7 @@ counted plan c status a b f k =
 
 -- it is over, in a state or spent
 module _ (plan : Plan) (c d : Configuration) (n m : ℕ) (f : Follows plan c n) (stay : seen_knowns plan.fixed d ≡ seen_knowns plan.fixed c) (given : Option L.LayerResults)
-  (ends : (inputs : L.Inputs) → Fits inputs c.inputs c.values → ((layer_end plan.code (meaning inputs n c)).results ≡ given) × (last (meaning inputs n c) ≡ state_of m d)) where
+    (ends : (inputs : L.Inputs) → Fits inputs c.inputs c.values → ((layer_end plan.code (meaning inputs n c)).results ≡ given) × (last (meaning inputs n c) ≡ state_of m d)) where
   before : (inputs : L.Inputs) → Agrees inputs (seen_knowns plan.fixed d) → Agrees inputs (seen_knowns plan.fixed c)
   before inputs h = subst (Agrees inputs) stay h
 
@@ -140,7 +140,7 @@ module _ (plan : Plan) (c d : Configuration) (slots : List Slot) (status : Statu
       let results : L.LayerResults = results_by plan.code (record (state_of 0 d) { values = held_values plan.code d.inputs d.values }) in
       let same : (code : _) → d.code ≡ code → results_by code (state_of so_far d) ≡ results_by code (record (state_of 0 d) { values = held_values code d.inputs d.values }) = λ code e. ap (λ x. results_by code (record (state_of 0 d) { values = held_values x d.inputs d.values })) e in
       let ends : (inputs : L.Inputs) → Fits inputs c.inputs c.values → ((layer_end plan.code (meaning inputs old.ops c)).results ≡ Some results) × (last (meaning inputs old.ops c) ≡ state_of so_far d) = λ inputs fits.
-          (ended_given plan.code (meaning inputs old.ops c) (state_of so_far d) (h.ends inputs fits old.ops) ∙ ap Some (same plan.code is), ended_last (meaning inputs old.ops c) (state_of so_far d) (h.ends inputs fits old.ops)) in
+      (ended_given plan.code (meaning inputs old.ops c) (state_of so_far d) (h.ends inputs fits old.ops) ∙ ap Some (same plan.code is), ended_last (meaning inputs old.ops c) (state_of so_far d) (h.ends inputs fits old.ops)) in
       let count = over_count plan c d old.ops so_far f stay (Some results) ends in
       let over : IsOver (progress_of plan d (Stopped Done)) = record {
         ends = over_is plan c d old.ops so_far f stay (Some results) ends;
@@ -153,7 +153,7 @@ module _ (plan : Plan) (c d : Configuration) (slots : List Slot) (status : Statu
   goes_spent h =
       let stay = knowns_stay plan.fixed c d h.inputs_stay h.fits in
       let ends : (inputs : L.Inputs) → Fits inputs c.inputs c.values → ((layer_end plan.code (meaning inputs old.ops c)).results ≡ None) × (last (meaning inputs old.ops c) ≡ state_of so_far d) = λ inputs fits.
-          (ap (λ (o : Outcome). (layer_end plan.code o).results) (h.ends inputs fits old.ops), ap last (h.ends inputs fits old.ops)) in
+      (ap (λ (o : Outcome). (layer_end plan.code o).results) (h.ends inputs fits old.ops), ap last (h.ends inputs fits old.ops)) in
       let count = over_count plan c d old.ops so_far f stay None ends in
       let over : IsOver (progress_of plan d (Stopped P.Spent)) = record {
         ends = over_is plan c d old.ops so_far f stay None ends;
@@ -213,10 +213,12 @@ seen_given (Some v) known w f h = ap (λ k. seen_known k w f) h.0 ∙ ap (λ x. 
 -- fewer inputs agree once a parameter that waited was given
 pub agreed_before : (inputs : L.Inputs) (known : List (Option L.Input)) (p : ℕ) (given : Option AnyValue) → slice_get known p ≡ Some None → Agrees inputs (slice_set known p (Some (L.From given))) → Agrees inputs known × (inputs p ≡ L.From given)
 agreed_before inputs known p given waits h =
-    let is : inputs p ≡ L.From given = subst (AgreesAt (inputs p)) (set_here known p (Some (L.From given)) (slice_get_within known p None waits)) (h.each p) in
-    (record {
-      each = λ k. ⊎_elim (λ (e : k ≡ p). subst (λ j. AgreesAt (inputs j) (slice_get known j)) (sym e) (subst (AgreesAt (inputs p)) (sym waits) (given, is))) (λ (ne : k ≢ p). subst (AgreesAt (inputs k)) (set_apart known p k (Some (L.From given)) ne) (h.each k)) (cases_eq k p);
-    }, is)
+    let is : inputs p ≡ L.From given = subst (AgreesAt (inputs p)) (set_here known p (Some (L.From given)) (slice_get_within known p None waits)) (h.each p) in (
+      record {
+        each = λ k. ⊎_elim (λ (e : k ≡ p). subst (λ j. AgreesAt (inputs j) (slice_get known j)) (sym e) (subst (AgreesAt (inputs p)) (sym waits) (given, is))) (λ (ne : k ≢ p). subst (AgreesAt (inputs k)) (set_apart known p k (Some (L.From given)) ne) (h.each k)) (cases_eq k p);
+      },
+      is,
+    )
 
 pub agrees_after : (inputs : L.Inputs) (known : List (Option L.Input)) (p : ℕ) (given : Option AnyValue) → slice_get known p ≡ Some None → Agrees inputs known → inputs p ≡ L.From given → Agrees inputs (slice_set known p (Some (L.From given)))
 agrees_after inputs known p given waits h is =
@@ -225,7 +227,7 @@ agrees_after inputs known p given waits h is =
     }
 
 module _ (plan : Plan) (c : Configuration) (slots : List Slot) (p : ℕ) (holds : Holds plan c slots (Stopped (Needs p))) (given : Option AnyValue) (known : Known) (w : AnyValue)
-  (as_given : GivenAs given known w) (typed : type_of w ≡ type_at plan.code.symbols p) where
+    (as_given : GivenAs given known w) (typed : type_of w ≡ type_at plan.code.symbols p) where
   abbrev pub asking : Progress
   asking = progress_of plan c (Stopped (Needs p))
 

@@ -66,7 +66,11 @@ fn called_step<'a>(m: &mut Machine<'a>, rest: Span)
 }
 
 /// A loop's condition was computed: the loop ends, or a turn of it begins.
-fn tested_step<'a>(m: &mut Machine<'a>, repeat: LoopOp, end: u32) -> Result<Option<LayerStop>, Memory>
+fn tested_step<'a>(
+    m: &mut Machine<'a>,
+    repeat: LoopOp,
+    end: u32,
+) -> Result<Option<LayerStop>, Memory>
     requires top { IsLast (Frame.Test repeat end) m.old.frames.items }
     requires ready { Ready (configuration m.old) }
     requires runs { m.old.mode ≡ Mode.Run }

@@ -72,7 +72,12 @@ fn side(is_so: bool, holds: Span, fails: Span) -> Span
 }
 
 /// A condition, and the range of the side that is taken.
-fn branch<'a>(m: &mut Machine<'a>, c: u32, holds: Span, fails: Span) -> Result<Option<LayerStop>, Memory>
+fn branch<'a>(
+    m: &mut Machine<'a>,
+    c: u32,
+    holds: Span,
+    fails: Span,
+) -> Result<Option<LayerStop>, Memory>
     requires ready { Ready (configuration m.old) }
     requires runs { m.old.mode ≡ Mode.Run }
     requires inside { m.old.at < m.old.end }
