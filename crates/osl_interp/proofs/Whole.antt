@@ -7,7 +7,7 @@ use Rattle.osl_layer.specs.Layer as L
 use Rattle.osl_interp.specs.Calls.{first_knowns, gave}
 use Rattle.osl_interp.specs.Progress.{Progress, AgreesAt, Agrees, given_reads, IsWithin, IsOver, StatusSound, IsSound, whole}
 use Rattle.osl_interp.specs.Starts.{BeginsAt}
-use Rattle.osl_interp.specs.Whole.{Begins, EndsAsCode, IsPartOfCode, IsKept}
+use Rattle.osl_interp.specs.Whole.{Begins, EndsAsCode, IsPartOfCode, IsNotLost}
 use Rattle.osl_interp.specs.declared.layer_run.Status.{Status}
 use Rattle.osl_interp.specs.declared.layer_run.Status.TheVariants.{Fresh, Resumed, Stopped, Lost}
 use Rattle.osl_interp.specs.declared.stop.LayerStop.TheVariants.{Done, Spent, Needs}
@@ -53,10 +53,10 @@ over_part p inputs over agrees =
     let count = e.ops in
     record { reads = λ k read. (λ i. e.reads i k) ∙ read; ops = omega (arith, count) }
 
-pub is_part_of_code : (p : Progress) (inputs : L.Inputs) → IsSound p → IsKept p.status → Agrees inputs p.known → IsPartOfCode p inputs
+pub is_part_of_code : (p : Progress) (inputs : L.Inputs) → IsSound p → IsNotLost p.status → Agrees inputs p.known → IsPartOfCode p inputs
 is_part_of_code p inputs h kept agrees = by p.status h kept
   where
-    by : (status : Status) → StatusSound p status → IsKept status → IsPartOfCode p inputs
+    by : (status : Status) → StatusSound p status → IsNotLost status → IsPartOfCode p inputs
     by Fresh s k = part p inputs s.0 agrees
     by (Resumed param) s k = part p inputs s agrees
     by (Stopped Done) s k = over_part p inputs s.0 agrees

@@ -22,9 +22,9 @@ pub record IsPartOfCode (p : Progress) (inputs : L.Inputs) : Type 0 where
   pub reads : (k : ℕ) → given_reads p.known k ≡ true → (whole p inputs).reads k ≡ true
   pub ops : p.ops ≤ whole_ops p inputs
 
--- memory did not run out
-abbrev pub IsKept : Status → Type 0
-IsKept Fresh = Unit
-IsKept (Resumed param) = Unit
-IsKept (Stopped stop) = Unit
-IsKept Lost = ⊥
+-- it did not run out of memory
+abbrev pub IsNotLost : Status → Type 0
+IsNotLost Fresh = Unit
+IsNotLost (Resumed param) = Unit
+IsNotLost (Stopped stop) = Unit
+IsNotLost Lost = ⊥

@@ -6,7 +6,7 @@ ghost use Rattle.osl_value.specs.Plain.{Plain};
 ghost use Rattle.osl_layer.specs.Layer.{Inputs, From};
 ghost use Rattle.osl_interp.specs.Calls.{first_knowns, gave};
 ghost use Rattle.osl_interp.specs.Progress.{Progress, Agrees, IsSound, whole};
-ghost use Rattle.osl_interp.specs.Whole.{Begins, EndsAsCode, IsPartOfCode, IsKept};
+ghost use Rattle.osl_interp.specs.Whole.{Begins, EndsAsCode, IsPartOfCode, IsNotLost};
 ghost use Rattle.osl_interp.specs.declared.layer_run.Status.TheVariants.{Stopped};
 ghost use Rattle.osl_interp.specs.declared.stop.LayerStop.TheVariants.{Done, Spent, Needs};
 
@@ -40,5 +40,5 @@ pub fn is_spent_as_code()
 /// However far a run has come, and if it is dropped there, it has read no parameter that the code does not read, and has
 /// counted no more ops.
 pub fn is_part_of_code()
-    ensures { (p : Progress) (inputs : Inputs) → IsSound p → IsKept p.status → Agrees inputs p.known → IsPartOfCode p inputs }
+    ensures { (p : Progress) (inputs : Inputs) → IsSound p → IsNotLost p.status → Agrees inputs p.known → IsPartOfCode p inputs }
 {}
