@@ -1,7 +1,9 @@
 -- How the steps of a job make its report.
 use Rattle.std.proofs.Common.{◌≡◌, ◌≢◌, ◌≤◌, ◌<◌, ◌+◌, ℕ, List, [], ◌∷◌, ◌++◌, length, take, drop, get_or, Option, Some, None, Err, refl, ap, sym, ◌∙◌, arith, add-one, Vec, subst, inl, inr}
 use Rattle.std.specs.Prelude.{codes, ◌==◌, if◌then◌else◌}
+use Rattle.std.specs.Borrow.{Bor}
 use Rattle.std.specs.Global.{Global}
+use Rattle.std.specs.Option.{option_map}
 use Rattle.std.proofs.lemmas.List.{take-append-drop}
 use Rattle.std.proofs.lemmas.Grind.{flat_map-append}
 use Rattle.std.proofs.Math.Seq.{drop-cons}
@@ -70,7 +72,7 @@ nothing_written plan before now sink nothing some_verdict files tells = let foun
         (line text, record { status = refusal_code w; report = report; read_fault = λ e. absurd ((code_range w).1 e) }, (0, omega arith, nothing))
     some_text (Accepted job) is =
         let report = is_done refl (record { job = job; accepted = is; shown = refl }) in
-        (out_text job, record { status = 0; report = report; read_fault = λ e. omega (arith, e) }, (0, omega arith, nothing))
+        (out_text job, record { status = 0; report = report; read_fault = λ e. absurd (omega (arith, e)) }, (0, omega arith, nothing))
 
 -- ---- one step
 
@@ -271,7 +273,14 @@ with_output gf pf g s o p before now r e reports = subst (λ (x : Option ℕ). R
 pub job_report : (job other : Option Job) (files : Files) (r : Report) → job ≡ other → ComesTo (plan_of job) files r → ComesTo (plan_of other) files r
 job_report job other files r e c = subst (λ (x : Option Job). ComesTo (plan_of x) files r) e c
 
--- the words spell a job, which is this one or is not built
+-- what the code finds to be built
+pub is_built : (found : Option (Bor ShadeJob)) (job : Bor ShadeJob) (built : Option ShadeJob) → found ≡ Some job → option_map (λ (j : Bor ShadeJob). j.now) found ≡ built → Some job.now ≡ built
+is_built found job built e d = ap (option_map (λ (j : Bor ShadeJob). j.now)) (sym e) ∙ d
+
+pub none_built : (found : Option (Bor ShadeJob)) (built : Option ShadeJob) → found ≡ None → option_map (λ (j : Bor ShadeJob). j.now) found ≡ built → None ≡ built
+none_built found built e d = ap (option_map (λ (j : Bor ShadeJob). j.now)) (sym e) ∙ d
+
+-- the words spell this job, of which this is what is built
 pub built_report : (job : Job) (other : Option Job) (found : Option ShadeJob) (files : Files) (r : Report) → Some job ≡ other → found ≡ built_of job
     → ComesTo (plan_of_built found) files r → ComesTo (plan_of other) files r
 built_report job other found files r e d c = job_report (Some job) other files r e (subst (λ (x : Option ShadeJob). ComesTo (plan_of_built x) files r) d c)

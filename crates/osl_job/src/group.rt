@@ -3,7 +3,7 @@ ghost use Rattle.osl_job.specs.Reader.{Reads, ReadsWhole, piece};
 ghost use Rattle.osl_job.specs.GroupText as spec;
 
 use crate::names::{is_name, split_point};
-use crate::text::{TextForm, ReadStop, Text};
+use crate::text::{ReadStop, Text, TextForm};
 use sqlite_items::Items;
 use std::alloc::Global;
 

@@ -169,7 +169,11 @@ fn assignments(
     Ok(body)
 }
 
-fn assignment(alloc: Global, tokens: &mut Tokens<'_>, params: &[Param]) -> Result<Assignment, ReadStop>
+fn assignment(
+    alloc: Global,
+    tokens: &mut Tokens<'_>,
+    params: &[Param],
+) -> Result<Assignment, ReadStop>
     requires { length params.now ≤ 16 }
     ensures read { Reads (spec.assignment params.now tokens.old) result tokens.new }
     ensures tied { IfOk result (λ a. assignment_fits (length params.now) a ≡ true) }

@@ -13,9 +13,9 @@ ghost use Rattle.osl_job.specs.Verdict.{line};
 
 use crate::code::value_of;
 use crate::group::{Group, is_one_point, read_group};
-use crate::report::{Refusal, Report, ExitStatus};
-use crate::small::{SmallShader, find_output};
+use crate::report::{ExitStatus, Refusal, Report};
 use crate::shader_text::{ShaderText, read_shader_text};
+use crate::small::{SmallShader, find_output};
 use crate::text::ReadStop;
 use osl_decimal::write_fx;
 use osl_store::{ReadError, Store};
@@ -51,13 +51,7 @@ fn built(job: &Job) -> Option<&ShadeJob>
     ensures { option_map (λ j. j.now) result ≡ built_of job.now }
 {
     match job {
-        Job::Shade(job) => {
-            if has_no_option(job) {
-                Some(job)
-            } else {
-                None
-            }
-        }
+        Job::Shade(job) => { if has_no_option(job) { Some(job) } else { None } }
         Job::Oslc { .. } | Job::Demo(_) | Job::DemoText(_) => None,
     }
 }

@@ -3,10 +3,9 @@
 #![tactic(auto)]
 
 use osl_store::{FileStore, ReadError, Store};
-use std::fs;
 use std::fs::Permissions;
-use std::io;
 use std::os::unix::fs::PermissionsExt;
+use std::{fs, io};
 
 fn main(rt: HostRuntime) -> io::Result<()> {
     fs::write(&rt, "closed", "bytes")?;

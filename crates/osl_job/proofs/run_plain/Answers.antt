@@ -7,7 +7,7 @@ use Rattle.osl_job.proofs.run_plain.Goals as goal
 
 pub returns-in_default-clause-cut_short : goal.returns-in_default-clause-cut_short
 returns-in_default-clause-cut_short g c cut =
-    nothing_written (plan_for c.args.words.now) _ _ (g.K.Sink.seen c.args.out.now) (c.puts_add_up.ensures.nothing _) c.one_verdict.ensures.some
+    nothing_written (plan_for c.args.words.now) _ _ (g.K.Sink.seen c.args.out.now) (c.puts_add_up.ensures.nothing (g.K.Sink.seen c.args.out.now)) c.one_verdict.ensures.some
 
 pub returns-in-Ok-print-clause-done : goal.returns-in-Ok-print-clause-done
 returns-in-Ok-print-clause-done g c e files tells = (
