@@ -1,0 +1,7 @@
+pub mod Growth
+pub mod Bodies
+pub mod Relation
+pub mod RunEnds
+pub mod Codes
+pub mod StoreCodes
+pub mod CallCodes
