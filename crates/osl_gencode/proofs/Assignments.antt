@@ -16,7 +16,7 @@ use Rattle.osl_typed.specs.Expressions.{Meaning, assigned}
 use Rattle.osl_typed.specs.declared.expr.Part.{Part}
 use Rattle.osl_typed.specs.declared.expr.Root.{Root}
 use Rattle.osl_typed.specs.Statements.{below}
-use Rattle.osl_gencode.specs.StoreCodes.{StoreCode, AllBelow, Stored}
+use Rattle.osl_gencode.specs.PartCodes.{StoreCode, AllBelow, Stored}
 use Rattle.osl_gencode.specs.Relation.{In, Related, IsOwn}
 use Rattle.osl_gencode.specs.Growth.{Extends}
 use Rattle.osl_gencode.specs.Codes.{AllWithin, AllIn, ExprCode, ListCode, Anything, Place, Code, Stays, AllSpared, Shows}

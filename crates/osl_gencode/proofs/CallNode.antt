@@ -25,6 +25,7 @@ use Rattle.osl_gencode.specs.Relation.{Wired, Related, Kept, In}
 use Rattle.osl_gencode.specs.RunEnds.{Leads, GivesCode, DoesCode}
 use Rattle.osl_gencode.specs.Codes.{Code, Anything, ExprCode, StmtCode}
 use Rattle.osl_gencode.specs.CallCodes.{ArgPlace, AllPassed, Entered, EnterCode, FinalsIn, IndicesIn, BackCode}
+use Rattle.osl_gencode.specs.PartCodes.{AllUnder}
 use Rattle.osl_gencode.proofs.Growing.{get_some, extends_self, extends_on, extends_push, extends_set, covers_before, covers_after, at_set, push_length, types_later}
 use Rattle.osl_gencode.proofs.RangeRuns.{leads_on, end_later}
 use Rattle.osl_gencode.proofs.RelatedStates.{high_symbol, leaf_within, global_low, room_later, params_low, kept_older, above_own}
@@ -46,10 +47,6 @@ back_related b syms room lo turns reads s old new le low t r consts rel = record
 }
 
 -- ---- what is kept of the arguments
-
-abbrev pub AllUnder : ℕ → List ℕ → Type 0
-AllUnder lo [] = Unit {0}
-AllUnder lo (r ∷ rs) = (r < lo) × AllUnder lo rs
 
 abbrev pub AllIndexed : ℕ → List ArgPlace → Type 0
 AllIndexed lo [] = Unit {0}

@@ -19,3 +19,7 @@ pub mod CallNode
 pub mod FrameFilling
 pub mod SectionRuns
 pub mod NestedRanges
+pub mod Constants
+pub mod PartSelects
+pub mod LeafReads
+pub mod VariableReads

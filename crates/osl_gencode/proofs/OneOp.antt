@@ -19,7 +19,7 @@ use Rattle.osl_gencode.specs.Bodies.{is_const, IsVariable, Body, frame_end, Room
 use Rattle.osl_gencode.specs.Relation.{IsOwn, Wired, Related, In}
 use Rattle.osl_gencode.specs.RunEnds.{GivesCode}
 use Rattle.osl_gencode.specs.Codes.{Code, Shows}
-use Rattle.osl_gencode.specs.StoreCodes.{AllOwn}
+use Rattle.osl_gencode.specs.PartCodes.{AllOwn}
 use Rattle.osl_gencode.proofs.Growing.{get_seam, get_extended, extends_on, extends_push, at_push, push_length}
 use Rattle.osl_gencode.proofs.RangeRuns.{compute_leads, step_plain}
 use Rattle.osl_gencode.proofs.RelatedStates.{wrote_one, related_temp, kept_temp, one_apart, room_later}

@@ -57,6 +57,17 @@ all_unwired b hi (p ∷ ps) one w =
 pub own_one : (b : Body) (k : ℕ) → IsOwn b k → (j : ℕ) → j < 1 → IsOwn b (k + j)
 own_one b k own j lt = let e : k ≡ k + j = omega (arith, lt) in subst (IsOwn b) e own
 
+-- a place of one leaf
+pub one_place : (syms : List Symbol) (r : ℕ) (ty : Ty) → HasType syms r ty → HaveTypes syms r (ty ∷ [])
+one_place syms r ty h = record { each = λ k t at. each k t at }
+  where
+    each : (k : ℕ) (t : Ty) → slice_get (ty ∷ []) k ≡ Some t → HasType syms (r + k) t
+    each zero t at =
+        let e : r + 0 ≡ r = omega arith in
+        let some : Some ty ≡ Some t = at in
+        record { symbol = h.symbol; here = ap (slice_get syms) e ∙ h.here; type = h.type ∙ cc some }
+    each (suc k) t at = absurd (cc at)
+
 pub one_typed : (syms : List Symbol) (symbol : Symbol) (ty : Ty) → symbol.ty ≡ ty → HaveTypes (syms ++ symbol ∷ []) (length syms) (ty ∷ [])
 one_typed syms symbol ty typed = record { each = λ k t at. each k t at }
   where

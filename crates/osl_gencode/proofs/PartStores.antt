@@ -19,7 +19,7 @@ use Rattle.osl_typed.specs.Parts.{with_selected}
 use Rattle.osl_gencode.specs.Bodies.{is_const, IsVariable, Body, frame_end, symbol_of, global_of, Room, IsNew}
 use Rattle.osl_gencode.specs.Relation.{Related, Kept}
 use Rattle.osl_gencode.specs.RunEnds.{Leads}
-use Rattle.osl_gencode.specs.StoreCodes.{AllOwn, StoreCode, Stored, AllBelow}
+use Rattle.osl_gencode.specs.PartCodes.{AllOwn, StoreCode, Stored, AllBelow}
 use Rattle.osl_gencode.proofs.Growing.{extends_self, extends_on, extends_push, covers_before, at_push, push_length}
 use Rattle.osl_gencode.proofs.RangeRuns.{put_same, put_other, leads_on, compute_leads}
 use Rattle.osl_gencode.proofs.RelatedStates.{written_leaf, other_leaf, leaf_within, leaf_apart, global_apart, global_low}

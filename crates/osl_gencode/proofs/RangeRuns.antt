@@ -15,7 +15,7 @@ use Rattle.oso_code.specs.Steps.{Step, Compute, Branch, span, step_of}
 use Rattle.oso_code.proofs.Steady.{run_more, run_past}
 use Rattle.osl_value.specs.declared.op_name.OpName.TheVariants.{If}
 use Rattle.osl_gencode.specs.RunEnds.{Leads, Finishes}
-use Rattle.osl_gencode.specs.StoreCodes.{AllOwn}
+use Rattle.osl_gencode.specs.PartCodes.{AllOwn}
 
 -- ---- the values of symbols
 

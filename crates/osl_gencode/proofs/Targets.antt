@@ -26,7 +26,7 @@ use Rattle.oso_code.specs.Run as R
 use Rattle.osl_gencode.specs.Growth.{Extends}
 use Rattle.osl_gencode.specs.Bodies.{IsVariable, Body, symbol_of, frame_end, global_of, Room, frame_at}
 use Rattle.osl_gencode.specs.Relation.{IsOwn, Related, Kept}
-use Rattle.osl_gencode.specs.StoreCodes.{Stored}
+use Rattle.osl_gencode.specs.PartCodes.{Stored}
 use Rattle.osl_gencode.proofs.Growing.{get_some}
 use Rattle.osl_gencode.proofs.RelatedStates.{leaf_within, global_apart, globals_apart, global_low, global_own, room_later}
 use Rattle.osl_gencode.proofs.PartStores.{related_stored}

@@ -3,5 +3,5 @@ pub mod Bodies
 pub mod Relation
 pub mod RunEnds
 pub mod Codes
-pub mod StoreCodes
+pub mod PartCodes
 pub mod CallCodes

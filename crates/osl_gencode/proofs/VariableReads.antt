@@ -1,0 +1,159 @@
+-- Reading variables, globals and parts of them: the indices, and then the leaf.
+use Rattle.std.proofs.Common.{◌≡◌, ℕ, zero, suc, ◌+◌, ◌<◌, ◌≤◌, ◌≢◌, ◌⊎◌, inl, inr, ⊎_elim, List, [], ◌∷◌, ◌++◌, length, map, Option, Some, None, Bool, true, false, refl, sym, ap, ◌∙◌, subst, arith}
+use Rattle.std.specs.Prelude.{slice_get}
+use Rattle.std.proofs.lemmas.List.{length-map}
+use Rattle.osl_value.specs.declared.op_name.OpName.{OpName}
+use Rattle.osl_value.specs.declared.types.Ty.{Ty}
+use Rattle.osl_value.specs.AnyValue.{AnyValue, type_of}
+use Rattle.osl_value.specs.Apply.{apply}
+use Rattle.osl_layer.specs.Globals.{type_of_global}
+use Rattle.osl_layer.specs.Layer.{Inputs, Input, From, Fixed, Default}
+use Rattle.osl_layer.specs.declared.global.GlobalName.{GlobalName}
+use Rattle.osl_overload.specs.declared.signature.Kind.TheVariants.{Value}
+use Rattle.oso_code.specs.declared.op.Op.{Op}
+use Rattle.oso_code.specs.declared.symbol.Symbol.{Symbol}
+use Rattle.oso_code.specs.Run as R
+use Rattle.oso_code.specs.Steps.{Step}
+use Rattle.osl_typed.specs.declared.expr.Part.{Part}
+use Rattle.osl_typed.specs.declared.expr.Root.{Root}
+use Rattle.osl_typed.specs.declared.expr.Root.TheVariants as root
+use Rattle.osl_typed.specs.Frames.{leaf_count, leaves_before, place_of, kind_in}
+use Rattle.osl_typed.specs.State.{State, ExpressionEnd, Gives, Exits, Spent, then_value, in_order, leaves_at}
+use Rattle.osl_typed.specs.Parts.{Frame, single, selected, selection, read_input, first_leaf, all_indices}
+use Rattle.osl_typed.specs.Expressions.{Meaning, read_part, indexed}
+
+-- ---- states
+
+-- one symbol after the frame was written
+pub related_computed : (b : Body) (syms : List Symbol) (room : Room b syms) (r : ℕ) (v : AnyValue) (s0 : ℕ) (src : State) (x y : R.State) → frame_end b ≤ s0 → Computed syms r v s0 x y → Related b syms src x → Related b syms src y
+related_computed b syms room r v s0 src x y le c rel = record {
+  vars = λ k h. (let q = (leaf_within b syms room k h).1 in c.older (symbol_of b k) (omega (arith, q, le))) ∙ rel.vars k h;
+  typed = rel.typed;
+  globals = λ g. (let q = global_low b syms room g in c.older (global_of b g) (omega (arith, q, le))) ∙ rel.globals g;
+  global_types = rel.global_types;
+  turns = c.turns ∙ rel.turns;
+  reads = c.reads ∙ rel.reads;
+  consts = λ k symbol here is. c.consts k symbol here is ∙ rel.consts k symbol here is;
+}
+
+module _ (b : Body) (from : R.Sources) (steps : List Step) (syms : List Symbol) (room : Room b syms) where
+  -- what indices select of a symbol
+  pub select_gives : (ops0 ops1 : List Op) (syms0 syms1 : List Symbol) (w : ℕ) (ty : Ty) (rs : List ℕ) (r : ℕ) (to : Ty) (v : AnyValue) (is : List AnyValue) (src : State) (x : R.State) → SelectCode ops0 ops1 syms0 syms1 w ty rs r to → Covers syms steps ops1 (length ops0) → Extends syms1 syms → frame_end b ≤ length syms0 → ((k : ℕ) → length syms0 ≤ k → from k ≡ R.Own) → AllOwn from (w ∷ rs) → AllUnder (length syms0) (w ∷ rs) → x.values w ≡ v → type_of v ≡ ty → map x.values rs ≡ is → Related b syms src x → GivesCode b from steps syms (length syms0) (In r (to ∷ [])) (length ops0) (length ops1) x (Gives (selected ty v is ∷ []) src)
+  select_gives ops0 ops1 syms0 syms1 w ty rs r to v is src x c cov ext le above own under v_is tv values rel =
+      let did = c.runs from steps syms x cov ext (ap type_of v_is ∙ tv) own above under in
+      let y = did.0 in
+      let value = did.2.value ∙ ap (λ z. selected ty z (map x.values rs)) v_is ∙ ap (selected ty v) values in
+      (y, record {
+        leads = did.1;
+        related = related_computed b syms room r (selected ty (x.values w) (map x.values rs)) (length syms0) src x y le did.2 rel;
+        kept = kept_older b (length syms0) x y did.2.older;
+      }, in_one r to (selected ty v is) y value (sym (ap type_of value) ∙ did.3))
+
+pub singles_under : (b : Body) (hi n : ℕ) (ps : List Place) → hi ≤ n → AllSingle ps → AllWithin b hi ps → AllUnder n (firsts ps)
+singles_under b hi n [] le one all = tt
+singles_under b hi n (p ∷ ps) le one all = let a = all.0 in let o = one.0 in (omega (arith, a, o, le), singles_under b hi n ps le one.1 all.2)
+
+pub under_append : (n : ℕ) (rs cs : List ℕ) → AllUnder n rs → AllUnder n cs → AllUnder n (rs ++ cs)
+under_append n [] cs a c = c
+under_append n (r ∷ rs) cs a c = (a.0, under_append n rs cs a.1 c)
+
+pub named_under : (b : Body) (syms : List Symbol) (o : Option ℕ) (cs : List ℕ) → Named b syms o cs → AllUnder (length syms) cs
+named_under b syms _ _ unnamed = tt
+named_under b syms _ _ (named m c symbol here is v own) = (get_some syms c symbol here, tt)
+
+-- the symbol that is given at the end is no input
+pub selected_own : (b : Body) (syms0 : List Symbol) (room : Room b syms0) (ops ops1 : List Op) (syms syms1 : List Symbol) (w : ℕ) (ty : Ty) (rs : List ℕ) (r : ℕ) (to : Ty) → Extends syms0 syms → IsOwn b w → SelectCode ops ops1 syms syms1 w ty rs r to → IsOwn b r
+selected_own b syms0 room ops ops1 syms syms1 w ty rs r to ext own c =
+    let rw = room.within in let l = ext.longer in
+    ⊎_elim (λ (q : (r ≡ w) × (rs ≡ [])). subst (IsOwn b) (sym (q.0)) own) (λ (q : (length syms ≤ r) × (r < length syms1)). let a = q.0 in above_own b syms0 room r (omega (arith, rw, l, a))) c.place
+
+pub selected_within : (ops ops1 : List Op) (syms syms1 : List Symbol) (w : ℕ) (ty : Ty) (rs : List ℕ) (r : ℕ) (to : Ty) → w < length syms → SelectCode ops ops1 syms syms1 w ty rs r to → r + 1 ≤ length syms1
+selected_within ops ops1 syms syms1 w ty rs r to lt c =
+    let l = c.grows.syms.longer in
+    ⊎_elim (λ (q : (r ≡ w) × (rs ≡ [])). let e = q.0 in omega (arith, e, lt, l)) (λ (q : (length syms ≤ r) × (r < length syms1)). let a = q.1 in omega (arith, a)) c.place
+
+-- ---- what no input reaches
+
+-- symbol w is the leaf that a part of a root is read from
+pub record LeafSource (b : Body) (syms0 : List Symbol) (rt : Root) (part : Part) (ty : Ty) (w : ℕ) : Type 0 where
+  pub leaf : State → AnyValue
+  pub own : IsOwn b w
+  pub low : w < frame_end b
+  pub variable : IsVariable syms0 w ty
+  pub holds : (syms : List Symbol) (s : State) (x : R.State) → Related b syms s x → x.values w ≡ leaf s
+  pub typed : (syms : List Symbol) (s : State) (x : R.State) → Related b syms s x → type_of (leaf s) ≡ ty
+  pub reads : (inputs : Inputs) (from : R.Sources) → Wired b inputs from → (is : List AnyValue) (s : State) → read_part (frame_at b inputs) rt part is s ≡ Gives (selected ty (leaf s) (all_indices part is) ∷ []) s
+
+-- the leaf of a part, by the kind
+leaf_read : (frame : Frame) (k : ℕ) (part : Part) (ty : Ty) (is : List AnyValue) (s : State) → part.kind ≡ Value ty → read_part frame (root.Variable k) part is s ≡ then_value (read_input (frame.inputs k) k (s.vars (first_leaf frame k part) ∷ []) s) (λ vs s1. Gives (selected ty (single vs) (all_indices part is) ∷ []) s1)
+unfolding leaves_at
+leaf_read frame k part ty is s e =
+    ap (λ z. read_part frame (root.Variable k) (record { fields = part.fields; kind = z; component = part.component }) is s) e
+
+global_read : (frame : Frame) (g : GlobalName) (part : Part) (ty : Ty) (is : List AnyValue) (s : State) → part.kind ≡ Value ty → read_part frame (root.Global g) part is s ≡ Gives (selected ty (s.globals g) (all_indices part is) ∷ []) s
+global_read frame g part ty is s e =
+    ap (λ z. read_part frame (root.Global g) (record { fields = part.fields; kind = z; component = part.component }) is s) e
+
+module _ (b : Body) (syms0 : List Symbol) (room : Room b syms0) where
+  pub variable_source : (k : ℕ) (part : Part) (ty : Ty) → b.stored k ≡ true → part.kind ≡ Value ty → slice_get b.types (place_of b.structures b.kinds k + leaves_before b.structures (kind_in b.kinds k) part.fields) ≡ Some ty → leaves_before b.structures (kind_in b.kinds k) part.fields < leaf_count b.structures (kind_in b.kinds k)
+      → LeafSource b syms0 (root.Variable k) part ty (symbol_of b (place_of b.structures b.kinds k + leaves_before b.structures (kind_in b.kinds k) part.fields))
+  variable_source k part ty may kind at inside =
+      let j = leaves_before b.structures (kind_in b.kinds k) part.fields in
+      let k0 = place_of b.structures b.kinds k + j in
+      let lt : k0 < length b.types = get_some b.types k0 ty at in
+      record {
+        leaf = λ s. s.vars k0;
+        own = stored_own b k j may lt inside;
+        low = (leaf_within b syms0 room k0 lt).1;
+        variable = room.leaves k0 ty at;
+        holds = λ syms s x rel. rel.vars k0 lt;
+        typed = λ syms s x rel. rel.typed k0 ty at;
+        reads = λ inputs from wired is s. leaf_read (frame_at b inputs) k part ty is s kind ∙ unconnected inputs from wired is s (inputs k) refl;
+      }
+    where
+      unconnected : (inputs : Inputs) (from : R.Sources) → Wired b inputs from → (is : List AnyValue) (s : State) (i : Input) → inputs k ≡ i → then_value (read_input i k (s.vars (first_leaf (frame_at b inputs) k part) ∷ []) s) (λ vs s1. Gives (selected ty (single vs) (all_indices part is) ∷ []) s1) ≡ Gives (selected ty (s.vars (first_leaf (frame_at b inputs) k part)) (all_indices part is) ∷ []) s
+      unconnected inputs from wired is s (From o) e = absurd (wired.unwired k o may e)
+      unconnected inputs from wired is s (Fixed v) e = refl
+      unconnected inputs from wired is s Default e = refl
+
+  pub global_source : (g : GlobalName) (part : Part) → part.kind ≡ Value (type_of_global g) → LeafSource b syms0 (root.Global g) part (type_of_global g) (global_of b g)
+  global_source g part kind = record {
+    leaf = λ s. s.globals g;
+    own = global_own b syms0 room g;
+    low = global_low b syms0 room g;
+    variable = room.globals g;
+    holds = λ syms s x rel. rel.globals g;
+    typed = λ syms s x rel. rel.global_types g;
+    reads = λ inputs from wired is s. global_read (frame_at b inputs) g part (type_of_global g) is s kind;
+  }
+
+-- ---- the nodes
+
+module _ (b : Body) (rt : Root) (part : Part) (ps : List Place) (cs : List ℕ) (r : ℕ) (to : Ty) where
+  abbrev Read : (Inputs → List Meaning) → Inputs → Meaning
+  Read indices inputs s = indexed (indices inputs) s (λ is s1. read_part (frame_at b inputs) rt part is s1)
+
+  meaning : (indices : Inputs → List Meaning) (inputs : Inputs) (s : State) → Read indices inputs s ≡ then_value (in_order (indices inputs) s Gives) (λ vss s1. read_part (frame_at b inputs) rt part (map single vss) s1)
+  meaning indices inputs s = in_order_then (indices inputs) s (λ vss s1. read_part (frame_at b inputs) rt part (map single vss) s1)
+
+  -- a leaf that no input reaches is read where it is, and without indices it needs no op
+  pub source_code : (ops0 opsI ops1 : List Op) (syms0 symsI symsN syms1 : List Symbol) (w : ℕ) (ty : Ty) (indices : Inputs → List Meaning) → Room b syms0 → LeafSource b syms0 rt part ty w → AllSingle ps → ListCode b ops0 opsI syms0 symsI ps indices → Extends symsI symsN → Named b symsN part.component cs → SelectCode opsI ops1 symsN syms1 w ty (firsts ps ++ cs) r to → ExprCode b ops0 ops1 syms0 syms1 r (to ∷ []) (Read indices)
+  source_code ops0 opsI ops1 syms0 symsI symsN syms1 w ty indices room src one ci extN name c =
+      let rw = room.within in let lI = ci.code.grows.syms.longer in let lN = extN.longer in let low = src.low in
+      let ext0 = extends_on syms0 symsI symsN ci.code.grows.syms extN in
+      record {
+        within = selected_within opsI ops1 symsN syms1 w ty (firsts ps ++ cs) r to (omega (arith, low, rw, lI, lN)) c;
+        own = own_one b r (selected_own b syms0 room opsI ops1 symsN syms1 w ty (firsts ps ++ cs) r to ext0 src.own c);
+        places = one_place syms1 r to (c.typed (variable_typed symsN w ty (variable_later syms0 symsN w ty ext0 src.variable)));
+        code = code_as b ops0 ops1 syms0 syms1 Anything (In r (to ∷ [])) _ _ (λ j inputs a s. sym (meaning indices inputs s) j) (
+        code_then b ops0 opsI ops1 syms0 symsN syms1 Anything (AllIn ps) (In r (to ∷ [])) (λ inputs a s. in_order (indices inputs) s Gives) (λ inputs vss s1. read_part (frame_at b inputs) rt part (map single vss) s1) (code_more b ops0 opsI syms0 symsI symsN Anything (AllIn ps) (λ inputs a s. in_order (indices inputs) s Gives) extN ci.code) (record {
+          grows = c.grows;
+          runs = λ inputs from steps syms vss s x wired cov ext rel all.
+            let extS = extends_on symsN syms1 syms c.grows.syms ext in
+            let roomS = room_later b syms0 syms (extends_on syms0 symsN syms ext0 extS) room in
+            let owns = all_own b inputs from (w ∷ (firsts ps ++ cs)) wired (src.own, unwired_append b (firsts ps) cs (all_unwired b (length symsI) ps one ci.within) (named_unwired b symsN part.component cs name)) in
+            let under = under_append (length symsN) (firsts ps) cs (singles_under b (length symsI) (length symsN) ps lN one ci.within) (named_under b symsN part.component cs name) in
+            subst (GivesCode b from steps syms (length symsN) (In r (to ∷ [])) (length opsI) (length ops1) x) (sym (src.reads inputs from wired (map single vss) s)) (
+            select_gives b from steps syms roomS opsI ops1 symsN syms1 w ty (firsts ps ++ cs) r to (src.leaf s) (all_indices part (map single vss)) s x c cov ext (omega (arith, rw, lI, lN)) (λ k l. above_own b syms0 room k (omega (arith, rw, lI, lN, l)) inputs from wired) owns (omega (arith, low, rw, lI, lN), under) (src.holds syms s x rel) (src.typed syms s x rel) (indices_are b symsN syms part ps cs vss s x extS name one all rel) rel);
+        }));
+      }
