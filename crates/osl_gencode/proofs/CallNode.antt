@@ -15,7 +15,7 @@ use Rattle.oso_code.specs.Run as R
 use Rattle.oso_code.specs.Steps.{Step, Exit}
 use Rattle.osl_typed.specs.State.{State, Globals, Reads, ExpressionEnd, Gives, in_order, leaves_at}
 use Rattle.osl_typed.specs.Frames.{leaves_of, leaf_count, place_of}
-use Rattle.osl_typed.specs.Expressions.{Calls, Called, Came, Left, Lost, Passed, Copied, Lent, Passing, value_passed, after_call, called}
+use Rattle.osl_typed.specs.Expressions.{Calls, Called, Came, Left, Lost, Passed, Copied, Lent, Passing, value_passed, after_call, called, indexed}
 use Rattle.osl_typed.specs.Statements.{exec_all, finals_from, call_end, entered, function_frame}
 use Rattle.osl_typed.specs.declared.shader.TypedFunction.{TypedFunction}
 use Rattle.osl_value.specs.Laws.{HasValues}

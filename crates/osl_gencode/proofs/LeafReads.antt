@@ -1,5 +1,5 @@
 -- An op that reads a leaf of a variable, which may be a connected parameter: both sides note the parameter, or end where it was given nothing.
-use Rattle.std.proofs.Common.{◌≡◌, ℕ, ◌+◌, ◌<◌, ◌≤◌, ◌≢◌, ◌⊎◌, ⊎_elim, List, [], ◌∷◌, ◌++◌, map, Option, Some, None, Bool, true, refl, sym, ap, ◌∙◌, subst, arith}
+use Rattle.std.proofs.Common.{◌≡◌, ℕ, ◌+◌, ◌≤◌, ◌≢◌, List, [], ◌∷◌, map, Option, Some, None, Bool, true, refl, sym, ap, ◌∙◌, subst, arith}
 use Rattle.std.specs.Prelude.{slice_get, if◌then◌else◌, ◌==◌}
 use Rattle.osl_value.specs.declared.op_name.OpName.{OpName}
 use Rattle.osl_value.specs.declared.types.Ty.{Ty}
@@ -10,8 +10,15 @@ use Rattle.oso_code.specs.declared.symbol.Symbol.{Symbol}
 use Rattle.oso_code.specs.CodeRun.{source_of}
 use Rattle.oso_code.specs.Run as R
 use Rattle.oso_code.specs.Steps.{Step, Compute}
-use Rattle.osl_typed.specs.State.{State, ExpressionEnd, Gives, Spent, noted}
+use Rattle.osl_typed.specs.State.{State, Gives, noted}
 use Rattle.osl_typed.specs.Parts.{single, read_input}
+use Rattle.osl_gencode.specs.PartCodes.{AllOwn}
+use Rattle.osl_gencode.specs.Relation.{Kept, Related}
+use Rattle.osl_gencode.specs.Bodies.{symbol_of, Body, IsVariable, Room, frame_end}
+use Rattle.osl_gencode.specs.RunEnds.{GivesCode}
+use Rattle.osl_gencode.proofs.Growing.{get_some}
+use Rattle.osl_gencode.proofs.RelatedStates.{one_apart, related_temp, wrote_one, kept_older}
+use Rattle.osl_gencode.proofs.RangeRuns.{one_ends, one_leads, put_other, args_own, compute_leads}
 
 -- both sides note the same parameter
 same_notes : (k : ℕ) (f : ℕ → Bool) → R.put k true f ≡ (λ j. if j == k then true else f j)

@@ -1,11 +1,8 @@
 -- Reading variables, globals and parts of them: the indices, and then the leaf.
-use Rattle.std.proofs.Common.{◌≡◌, ℕ, zero, suc, ◌+◌, ◌<◌, ◌≤◌, ◌≢◌, ◌⊎◌, inl, inr, ⊎_elim, List, [], ◌∷◌, ◌++◌, length, map, Option, Some, None, Bool, true, false, refl, sym, ap, ◌∙◌, subst, arith}
+use Rattle.std.proofs.Common.{◌≡◌, ℕ, ◌+◌, ◌<◌, ◌≤◌, ⊎_elim, List, [], ◌∷◌, ◌++◌, length, map, Option, Some, true, refl, sym, ap, ◌∙◌, subst, arith}
 use Rattle.std.specs.Prelude.{slice_get}
-use Rattle.std.proofs.lemmas.List.{length-map}
-use Rattle.osl_value.specs.declared.op_name.OpName.{OpName}
 use Rattle.osl_value.specs.declared.types.Ty.{Ty}
 use Rattle.osl_value.specs.AnyValue.{AnyValue, type_of}
-use Rattle.osl_value.specs.Apply.{apply}
 use Rattle.osl_layer.specs.Globals.{type_of_global}
 use Rattle.osl_layer.specs.Layer.{Inputs, Input, From, Fixed, Default}
 use Rattle.osl_layer.specs.declared.global.GlobalName.{GlobalName}
@@ -18,9 +15,22 @@ use Rattle.osl_typed.specs.declared.expr.Part.{Part}
 use Rattle.osl_typed.specs.declared.expr.Root.{Root}
 use Rattle.osl_typed.specs.declared.expr.Root.TheVariants as root
 use Rattle.osl_typed.specs.Frames.{leaf_count, leaves_before, place_of, kind_in}
-use Rattle.osl_typed.specs.State.{State, ExpressionEnd, Gives, Exits, Spent, then_value, in_order, leaves_at}
-use Rattle.osl_typed.specs.Parts.{Frame, single, selected, selection, read_input, first_leaf, all_indices}
+use Rattle.osl_typed.specs.State.{State, Gives, then_value, in_order, leaves_at}
+use Rattle.osl_typed.specs.Parts.{Frame, single, selected, read_input, first_leaf, all_indices}
 use Rattle.osl_typed.specs.Expressions.{Meaning, read_part, indexed}
+use Rattle.osl_gencode.specs.PartCodes.{Computed, SelectCode, AllUnder, AllOwn}
+use Rattle.osl_gencode.specs.Relation.{IsOwn, Wired, In, Related}
+use Rattle.osl_gencode.specs.Growth.{Extends, Covers}
+use Rattle.osl_gencode.specs.Codes.{ExprCode, ListCode, AllIn, Place, Anything, AllWithin}
+use Rattle.osl_gencode.specs.Bodies.{symbol_of, global_of, Body, IsVariable, Room, frame_at, frame_end}
+use Rattle.osl_gencode.specs.RunEnds.{GivesCode}
+use Rattle.osl_gencode.proofs.Operations.{all_unwired, AllSingle, firsts, one_place, own_one}
+use Rattle.osl_gencode.proofs.Growing.{get_some, variable_later, extends_on, variable_typed}
+use Rattle.osl_gencode.proofs.RelatedStates.{above_own, global_own, global_low, room_later, kept_older, leaf_within}
+use Rattle.osl_gencode.proofs.Assignments.{indices_are, unnamed, Named, unwired_append, named, named_unwired}
+use Rattle.osl_gencode.proofs.CodeLists.{code_then, code_more, in_order_then, code_as}
+use Rattle.osl_gencode.proofs.OneOp.{in_one, all_own}
+use Rattle.osl_gencode.proofs.Targets.{stored_own}
 
 -- ---- states
 
