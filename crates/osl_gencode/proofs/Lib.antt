@@ -23,3 +23,6 @@ pub mod Constants
 pub mod PartSelects
 pub mod LeafReads
 pub mod VariableReads
+pub mod PartOfNode
+pub mod Branches
+pub mod CopyingBack

@@ -18,19 +18,27 @@ use Rattle.osl_typed.specs.Frames.{leaf_count, leaves_before, place_of, kind_in}
 use Rattle.osl_typed.specs.State.{State, Gives, then_value, in_order, leaves_at}
 use Rattle.osl_typed.specs.Parts.{Frame, single, selected, read_input, first_leaf, all_indices}
 use Rattle.osl_typed.specs.Expressions.{Meaning, read_part, indexed}
-use Rattle.osl_gencode.specs.PartCodes.{Computed, SelectCode, AllUnder, AllOwn}
+use Rattle.osl_value.specs.declared.op_name.OpName.{OpName}
+use Rattle.osl_value.specs.Apply.{apply}
+use Rattle.std.proofs.lemmas.List.{length-map}
+use Rattle.osl_value.proofs.TableLaws.{applied_type}
+use Rattle.osl_gencode.specs.PartCodes.{Computed, SelectCode, AllUnder, AllOwn, Selects}
 use Rattle.osl_gencode.specs.Relation.{IsOwn, Wired, In, Related}
 use Rattle.osl_gencode.specs.Growth.{Extends, Covers}
 use Rattle.osl_gencode.specs.Codes.{ExprCode, ListCode, AllIn, Place, Anything, AllWithin}
-use Rattle.osl_gencode.specs.Bodies.{symbol_of, global_of, Body, IsVariable, Room, frame_at, frame_end}
+use Rattle.osl_gencode.specs.Bodies.{symbol_of, global_of, Body, IsVariable, Room, frame_at, frame_end, IsNew}
 use Rattle.osl_gencode.specs.RunEnds.{GivesCode}
 use Rattle.osl_gencode.proofs.Operations.{all_unwired, AllSingle, firsts, one_place, own_one}
-use Rattle.osl_gencode.proofs.Growing.{get_some, variable_later, extends_on, variable_typed}
+use Rattle.osl_gencode.proofs.Growing.{get_some, variable_later, extends_on, variable_typed, covers_before, extends_self, push_length, extends_push, at_push, get_seam}
 use Rattle.osl_gencode.proofs.RelatedStates.{above_own, global_own, global_low, room_later, kept_older, leaf_within}
-use Rattle.osl_gencode.proofs.Assignments.{indices_are, unnamed, Named, unwired_append, named, named_unwired}
+use Rattle.osl_gencode.proofs.Assignments.{indices_are, unnamed, Named, unwired_append, named, named_unwired, map_append}
 use Rattle.osl_gencode.proofs.CodeLists.{code_then, code_more, in_order_then, code_as}
-use Rattle.osl_gencode.proofs.OneOp.{in_one, all_own}
+use Rattle.osl_gencode.proofs.OneOp.{in_one, all_own, op_of, reading_step}
 use Rattle.osl_gencode.proofs.Targets.{stored_own}
+use Rattle.osl_gencode.proofs.LeafReads.{read_gives, HasRead}
+use Rattle.osl_gencode.proofs.AndNode.{new_variable}
+use Rattle.osl_gencode.proofs.PartSelects.{own_left, own_right, under_more, same_values, under_right}
+use Rattle.osl_gencode.proofs.Sequels.{seq_code}
 
 -- ---- states
 
@@ -165,5 +173,69 @@ module _ (b : Body) (rt : Root) (part : Part) (ps : List Place) (cs : List ℕ) 
             let under = under_append (length symsN) (firsts ps) cs (singles_under b (length symsI) (length symsN) ps lN one ci.within) (named_under b symsN part.component cs name) in
             subst (GivesCode b from steps syms (length symsN) (In r (to ∷ [])) (length opsI) (length ops1) x) (sym (src.reads inputs from wired (map single vss) s)) (
             select_gives b from steps syms roomS opsI ops1 symsN syms1 w ty (firsts ps ++ cs) r to (src.leaf s) (all_indices part (map single vss)) s x c cov ext (omega (arith, rw, lI, lN)) (λ k l. above_own b syms0 room k (omega (arith, rw, lI, lN, l)) inputs from wired) owns (omega (arith, low, rw, lI, lN), under) (src.holds syms s x rel) (src.typed syms s x rel) (indices_are b symsN syms part ps cs vss s x extS name one all rel) rel);
+        }));
+      }
+
+-- ---- what may be connected
+
+-- a list of indices that was split
+split_values : (f : ℕ → AnyValue) (hs rs ks : List ℕ) → hs ++ rs ≡ ks → map f ks ≡ map f hs ++ map f rs
+split_values f hs rs ks e = sym (ap (map f) e) ∙ map_append f hs rs
+
+split_under : (n : ℕ) (hs rs ks : List ℕ) → hs ++ rs ≡ ks → AllUnder n ks → AllUnder n rs
+split_under n hs rs ks e all = under_right n hs rs (subst (AllUnder n) (sym e) all)
+
+module _ (b : Body) (k : ℕ) (part : Part) (ps : List Place) (cs : List ℕ) (r : ℕ) (last : Ty) where
+  -- The first op reads the variable, and is of the first indices, or copies the leaf where there are none. The others are of what it gives.
+  pub variable_code : (ops0 opsI ops1 : List Op) (syms0 symsI symsN syms1 : List Symbol) (ty mid : Ty) (name : OpName) (hs rs : List ℕ) (symbol : Symbol) (indices : Inputs → List Meaning) → Room b syms0 → part.kind ≡ Value ty → slice_get b.types (place_of b.structures b.kinds k + leaves_before b.structures (kind_in b.kinds k) part.fields) ≡ Some ty → leaves_before b.structures (kind_in b.kinds k) part.fields < leaf_count b.structures (kind_in b.kinds k)
+      → AllSingle ps → ListCode b ops0 opsI syms0 symsI ps indices → Extends symsI symsN → Named b symsN part.component cs → hs ++ rs ≡ firsts ps ++ cs → IsNew symbol mid → Selects ty name mid (length hs) (length rs)
+      → SelectCode (opsI ++ op_of name (length symsN) (symbol_of b (place_of b.structures b.kinds k + leaves_before b.structures (kind_in b.kinds k) part.fields) ∷ hs) ∷ []) ops1 (symsN ++ symbol ∷ []) syms1 (length symsN) mid rs r last
+      → ExprCode b ops0 ops1 syms0 syms1 r (last ∷ []) (λ inputs s. indexed (indices inputs) s (λ is s1. read_part (frame_at b inputs) (root.Variable k) part is s1))
+  variable_code ops0 opsI ops1 syms0 symsI symsN syms1 ty mid name hs rs symbol indices room kind here inside one ci extN is_named split new sel c =
+      let j = leaves_before b.structures (kind_in b.kinds k) part.fields in
+      let k0 = place_of b.structures b.kinds k + j in
+      let t = length symsN in
+      let op = op_of name t (symbol_of b k0 ∷ hs) in
+      let opsF = opsI ++ op ∷ [] in
+      let symsT = symsN ++ symbol ∷ [] in
+      let rw = room.within in let lI = ci.code.grows.syms.longer in let lN = extN.longer in let kT = push_length symsN symbol in let kC = c.grows.syms.longer in
+      let lF = push_length opsI op in let lC = c.grows.ops.longer in
+      let lt : k0 < length b.types = get_some b.types k0 ty here in
+      let ext0 = extends_on syms0 symsI symsN ci.code.grows.syms extN in
+      let extN1 = extends_on symsN symsT syms1 (extends_push symsN symbol) c.grows.syms in
+      let toT = extends_on opsI opsF ops1 (extends_push opsI op) c.grows.ops in
+      let all = unwired_append b (firsts ps) cs (all_unwired b (length symsI) ps one ci.within) (named_unwired b symsN part.component cs is_named) in
+      let under = under_append t (firsts ps) cs (singles_under b (length symsI) t ps lN one ci.within) (named_under b symsN part.component cs is_named) in
+      let own_t : IsOwn b t = above_own b syms0 room t (omega (arith, rw, lI, lN)) in
+      record {
+        within = selected_within opsF ops1 symsT syms1 t mid rs r last (omega (arith, kT)) c;
+        own = own_one b r (selected_own b syms0 room opsF ops1 symsT syms1 t mid rs r last (extends_on syms0 symsN symsT ext0 (extends_push symsN symbol)) own_t c);
+        places = one_place syms1 r last (c.typed (record { symbol = symbol; here = get_seam symsN symbol; type = new.typed }));
+        code = code_as b ops0 ops1 syms0 syms1 Anything (In r (last ∷ [])) _ _ (λ i inputs a s. sym (in_order_then (indices inputs) s (λ vss s1. read_part (frame_at b inputs) (root.Variable k) part (map single vss) s1)) i) (
+        code_then b ops0 opsI ops1 syms0 symsN syms1 Anything (AllIn ps) (In r (last ∷ [])) (λ inputs a s. in_order (indices inputs) s Gives) (λ inputs vss s1. read_part (frame_at b inputs) (root.Variable k) part (map single vss) s1) (code_more b ops0 opsI syms0 symsI symsN Anything (AllIn ps) (λ inputs a s. in_order (indices inputs) s Gives) extN ci.code) (record {
+          grows = record { ops = toT; syms = extN1 };
+          runs = λ inputs from steps syms vss s x wired cov ext rel all_in.
+            let extT = extends_on symsT syms1 syms c.grows.syms ext in
+            let extS = extends_on symsN syms1 syms extN1 ext in
+            let roomS = room_later b syms0 syms (extends_on syms0 symsN syms ext0 extS) room in
+            let var = new_variable symsN syms symbol mid new extT in
+            let owns = subst (AllOwn from) (sym split) (all_own b inputs from (firsts ps ++ cs) wired all) in
+            let cov1 = covers_before syms steps opsF ops1 (length opsI) (length opsI) (omega arith) c.grows.ops cov in
+            let covC = covers_before syms steps ops1 ops1 (length opsI) (length opsF) (omega (arith, lF)) (extends_self ops1) cov in
+            let at = at_push syms steps opsI op (length opsI) (omega arith) cov1 ∙ ap Some (reading_step syms (length opsI) name t mid (symbol_of b k0 ∷ hs) sel.plain sel.reading var) in
+            let is = map single vss in
+            let values : map x.values hs ++ map x.values rs ≡ all_indices part is = sym (split_values x.values hs rs (firsts ps ++ cs) split) ∙ indices_are b symsN syms part ps cs vss s x extS is_named one all_in rel in
+            let first : (o : Option AnyValue) → inputs k ≡ From o → symbol_of b k0 ≡ k = λ o e. let f = wired.first k o e in let n = f.1 in (let z : k0 ≡ place_of b.structures b.kinds k = omega (arith, inside, n) in ap (symbol_of b) z ∙ f.0) in
+            let typed : (v : AnyValue) → inputs k ≡ From (Some v) → type_of v ≡ ty = λ v e. wired.typed k v ty e (let n = (wired.first k (Some v) e).1 in let z : place_of b.structures b.kinds k ≡ k0 = omega (arith, inside, n) in ap (slice_get b.types) z ∙ here) in
+            let read = read_gives b from steps syms roomS t (length opsI) t k k0 name ty mid hs (inputs k) s x (omega arith) (omega (arith, rw, lI, lN)) var here (wired.here k j lt inside) first typed at (own_left from hs rs owns) rel in
+            let read1 = subst (λ z. GivesCode b from steps syms t (HasRead syms t name ty mid hs x) (length opsI) z x (read_input (inputs k) k (s.vars k0 ∷ []) s)) (sym lF) read in
+            subst (GivesCode b from steps syms t (In r (last ∷ [])) (length opsI) (length ops1) x) (sym (leaf_read (frame_at b inputs) k part ty is s kind)) (
+            seq_code b from steps syms (HasRead syms t name ty mid hs x) (In r (last ∷ [])) t (length symsT) (length opsI) (length opsF) (length ops1) x (read_input (inputs k) k (s.vars k0 ∷ []) s) (λ vs s1. Gives (selected ty (single vs) (all_indices part is) ∷ []) s1) (omega (arith, kT)) lC read1 (λ vs s1 y rel1 kept1 p.
+              let same : (i : ℕ) → i < t → y.values i ≡ x.values i = λ i l. p.others i (λ e. absurd (omega (arith, e, l))) in
+              let under_rs = split_under t hs rs (firsts ps ++ cs) split under in
+              let v = apply name mid (single vs ∷ map x.values hs) in
+              let value : selected ty (single vs) (all_indices part is) ≡ selected mid v (map x.values rs) = ap (selected ty (single vs)) (sym values) ∙ sel.means (single vs) (map x.values hs) (map x.values rs) p.typed (length-map hs x.values) (length-map rs x.values) in
+              subst (λ z. GivesCode b from steps syms (length symsT) (In r (last ∷ [])) (length opsF) (length ops1) y (Gives (z ∷ []) s1)) (sym value) (
+              select_gives b from steps syms roomS opsF ops1 symsT syms1 t mid rs r last v (map x.values rs) s1 y c covC ext (omega (arith, rw, lI, lN, kT)) (λ i l. above_own b syms0 room i (omega (arith, rw, lI, lN, kT, l)) inputs from wired) (own_t inputs from wired, own_right from hs rs owns) (omega (arith, kT), under_more t (length symsT) rs (omega (arith, kT)) under_rs) p.value (applied_type name mid (single vs ∷ map x.values hs) sel.has) (same_values t rs x y same under_rs) rel1)));
         }));
       }
