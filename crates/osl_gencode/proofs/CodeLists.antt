@@ -17,7 +17,7 @@ use Rattle.osl_gencode.specs.Codes.{IsSpared, AllSpared, Stays, Code, Anything, 
 use Rattle.osl_gencode.proofs.Growing.{get_some, extends_self, extends_on, grows_on, covers_before, types_later}
 use Rattle.osl_gencode.proofs.RangeRuns.{leads_self}
 use Rattle.osl_gencode.proofs.RelatedStates.{kept_self}
-use Rattle.osl_gencode.proofs.Sequels.{seq_code}
+use Rattle.osl_gencode.proofs.Sequels.{seq_code, gives_less}
 
 -- ---- lists of meanings
 
@@ -168,3 +168,22 @@ code_more b ops0 ops1 syms0 syms1 syms2 P Q f ext c =
 pub code_any : {A B : Type 0} (b : Body) (ops0 ops1 : List Op) (syms0 syms1 : List Symbol) (P : Shows A) (Q : Shows B) (f : Inputs → State → ExpressionEnd B) → Code b ops0 ops1 syms0 syms1 Anything Q (λ inputs a. f inputs) → Code b ops0 ops1 syms0 syms1 P Q (λ inputs a. f inputs)
 code_any b ops0 ops1 syms0 syms1 P Q f c =
     record { grows = c.grows; runs = λ inputs from steps syms a src cod wired cov ext rel p. c.runs inputs from steps syms tt src cod wired cov ext rel tt }
+
+-- what is older than more is older than less
+pub code_less : {A B : Type 0} (b : Body) (ops0 ops1 : List Op) (syms0 syms1 syms2 : List Symbol) (P : Shows A) (Q : Shows B) (f : Inputs → A → State → ExpressionEnd B) → Extends syms0 syms1 → Code b ops0 ops1 syms1 syms2 P Q f → Code b ops0 ops1 syms0 syms2 P Q f
+code_less b ops0 ops1 syms0 syms1 syms2 P Q f ext c =
+    record {
+      grows = record { ops = c.grows.ops; syms = extends_on syms0 syms1 syms2 ext c.grows.syms };
+      runs = λ inputs from steps syms a src cod wired cov ext2 rel p. gives_less b from steps syms Q (length syms0) (length syms1) (length ops0) (length ops1) cod (f inputs a src) ext.longer c.grows.ops.longer (c.runs inputs from steps syms a src cod wired cov ext2 rel p);
+    }
+
+-- one after another, where the second may write what the first added
+pub code_then_into : {A B C : Type 0} (b : Body) (ops0 ops1 ops2 : List Op) (syms0 syms1 syms2 : List Symbol) (P : Shows A) (Q : Shows B) (S : Shows C) (f : Inputs → A → State → ExpressionEnd B) (g : Inputs → B → State → ExpressionEnd C) → Extends syms1 syms2 → Code b ops0 ops1 syms0 syms1 P Q f → Code b ops1 ops2 syms0 syms2 Q S g → Code b ops0 ops2 syms0 syms2 P S (λ inputs a s. then_value (f inputs a s) (g inputs))
+code_then_into b ops0 ops1 ops2 syms0 syms1 syms2 P Q S f g ext12 c d =
+    let l0 = c.grows.ops.longer in let l1 = d.grows.ops.longer in
+    record {
+      grows = record { ops = extends_on ops0 ops1 ops2 c.grows.ops d.grows.ops; syms = d.grows.syms };
+      runs = λ inputs from steps syms a src cod wired cov ext rel p.
+        seq_code b from steps syms Q S (length syms0) (length syms0) (length ops0) (length ops1) (length ops2) cod (f inputs a src) (g inputs) (omega arith) l1 (c.runs inputs from steps syms a src cod wired (covers_before syms steps ops1 ops2 (length ops0) (length ops0) (omega arith) d.grows.ops cov) (extends_on syms1 syms2 syms ext12 ext) rel p) (λ v s y rel1 kept1 q.
+          d.runs inputs from steps syms v s y wired (covers_before syms steps ops2 ops2 (length ops0) (length ops1) l0 (extends_self ops2) cov) ext rel1 q);
+    }

@@ -1,86 +1,23 @@
--- A block of symbols is filled by one assignment each: how a function's frame is made.
-use Rattle.std.proofs.Common.{◌≡◌, ℕ, zero, suc, ◌+◌, ◌<◌, ◌≤◌, ◌⊎◌, inl, inr, ⊎_elim, List, [], ◌∷◌, ◌++◌, length, map, Some, None, true, refl, sym, ap, ◌∙◌, subst, arith, length-append}
+-- How a function's frame is made: the frame and the place of the result are one block, filled from the arguments and from zeros.
+use Rattle.std.proofs.Common.{◌≡◌, ℕ, zero, suc, ◌+◌, ◌<◌, ◌≤◌, ◌⊎◌, inl, inr, ⊎_elim, List, [], ◌∷◌, ◌++◌, length, map, Some, None, true, refl, sym, ap, ◌∙◌, subst, arith, length-append, Option}
 use Rattle.std.specs.Prelude.{slice_get, ◌==◌, if◌then◌else◌}
 use Rattle.std.specs.List.{flat_map}
 use Rattle.std.proofs.lemmas.Bool.{cases_lt}
-use Rattle.osl_value.specs.declared.op_name.OpName.TheVariants.{Assign}
 use Rattle.osl_value.specs.declared.types.Ty.{Ty}
 use Rattle.osl_value.specs.AnyValue.{AnyValue, Parts, type_of, zero_value}
-use Rattle.osl_value.specs.Apply.{apply}
 use Rattle.oso_code.specs.declared.op.Op.{Op}
 use Rattle.oso_code.specs.declared.symbol.Symbol.{Symbol}
 use Rattle.oso_code.specs.Run as R
-use Rattle.oso_code.specs.Steps.{Step}
 use Rattle.osl_typed.specs.State.{with_leaves}
 use Rattle.osl_typed.specs.Frames.{zero_leaves}
 use Rattle.osl_typed.specs.Expressions.{Passed, value_passed}
-use Rattle.osl_gencode.specs.Growth.{Extends, Covers}
+use Rattle.osl_gencode.specs.Growth.{Extends}
 use Rattle.osl_gencode.specs.Bodies.{is_const, IsVariable, HaveTypes, Body, frame_end, Room}
 use Rattle.osl_gencode.specs.Relation.{HoldsConsts}
-use Rattle.osl_gencode.specs.RunEnds.{Leads}
 use Rattle.osl_gencode.specs.CallCodes.{ArgPlace, AllPassed, Entered, EnterCode, IsInner}
-use Rattle.osl_gencode.proofs.Growing.{get_left, get_there, get_seam, get_some, extends_self, extends_on, extends_push, covers_before, at_push, push_length}
-use Rattle.osl_gencode.proofs.RangeRuns.{put_same, put_other, leads_self, leads_on, compute_leads}
+use Rattle.osl_gencode.proofs.Growing.{get_left, get_there, get_some}
 use Rattle.osl_gencode.proofs.RelatedStates.{other_leaf}
-use Rattle.osl_gencode.proofs.OneOp.{op_of, reading_step}
-use Rattle.osl_gencode.proofs.OpValues.{copied}
-
--- the symbols from w on got what stood in these
-pub record Moved (w : ℕ) (rs : List ℕ) (old new : R.State) : Type 0 where
-  pub inside : (k r : ℕ) → slice_get rs k ≡ Some r → new.values (w + k) ≡ old.values r
-  pub outside : (k : ℕ) → (k < w) ⊎ (w + length rs ≤ k) → new.values k ≡ old.values k
-  pub turns : new.turns ≡ old.turns
-  pub reads : new.reads ≡ old.reads
-
--- what is asked: each target has the type of the value that goes there, and no source is a target
-pub record CanMove (from : R.Sources) (syms : List Symbol) (w : ℕ) (rs : List ℕ) (old : R.State) : Type 0 where
-  pub typed : (k r : ℕ) → slice_get rs k ≡ Some r → IsVariable syms (w + k) (type_of (old.values r))
-  pub own : (k r : ℕ) → slice_get rs k ≡ Some r → from r ≡ R.Own
-  pub apart : (k r : ℕ) → slice_get rs k ≡ Some r → (r < w) ⊎ (w + length rs ≤ r)
-
-pub record MoveCode (ops0 ops1 : List Op) (w : ℕ) (rs : List ℕ) : Type 0 where
-  pub grows : Extends ops0 ops1
-  pub runs : (from : R.Sources) (steps : List Step) (syms : List Symbol) (old : R.State) → Covers syms steps ops1 (length ops0) → CanMove from syms w rs old → (new : R.State) × Leads from steps (length ops0) (length ops1) old new × Moved w rs old new
-
-pub move_none : (ops : List Op) (w : ℕ) → MoveCode ops ops w []
-move_none ops w = record {
-  grows = extends_self ops;
-  runs = λ from steps syms old cov can. (old, leads_self from steps (length ops) old, record { inside = λ k r at. absurd (cc at); outside = λ k o. refl; turns = refl; reads = refl });
-}
-
-pub move_more : (ops0 ops1 : List Op) (w r : ℕ) (rs : List ℕ) → MoveCode ops0 ops1 w rs → MoveCode ops0 (ops1 ++ op_of Assign (w + length rs) (r ∷ []) ∷ []) w (rs ++ r ∷ [])
-move_more ops0 ops1 w r rs c =
-    let n = length rs in
-    let op = op_of Assign (w + n) (r ∷ []) in
-    let l = c.grows.longer in
-    let lr = push_length rs r in
-    record {
-      grows = extends_on ops0 ops1 (ops1 ++ op ∷ []) c.grows (extends_push ops1 op);
-      runs = λ from steps syms old cov can.
-        let here : slice_get (rs ++ r ∷ []) n ≡ Some r = get_seam rs r in
-        let can0 : CanMove from syms w rs old = record { typed = λ k q at. can.typed k q (left k q at); own = λ k q at. can.own k q (left k q at); apart = λ k q at. (⊎_elim (λ l. inl l) (λ g. inr (omega (arith, g, lr))) (can.apart k q (left k q at))) } in
-        let did = c.runs from steps syms old (covers_before syms steps ops1 (ops1 ++ op ∷ []) (length ops0) (length ops0) (omega arith) (extends_push ops1 op) cov) can0 in
-        let y = did.0 in
-        let m = did.2 in
-        let same : y.values r ≡ old.values r = m.outside r (⊎_elim (λ l. inl l) (λ g. inr (omega (arith, g, lr))) (can.apart n r here)) in
-        let v = apply Assign (type_of (old.values r)) (y.values r ∷ []) in
-        let v_is : v ≡ old.values r = ap (λ z. apply Assign (type_of (old.values r)) (z ∷ [])) same ∙ copied (old.values r) (type_of (old.values r)) refl in
-        let z = R.write (w + n) v (R.ticked y) in
-        let at = at_push syms steps ops1 op (length ops0) l cov ∙ ap Some (reading_step syms (length ops1) Assign (w + n) (type_of (old.values r)) (r ∷ []) refl refl (can.typed n r here)) in
-        let moves = compute_leads from steps (length ops1) (w + n) Assign (type_of (old.values r)) (r ∷ []) y at (can.own n r here, tt) in
-        (z, subst (λ q. Leads from steps (length ops0) q old z) (sym (push_length ops1 op)) (leads_on from steps (length ops0) (length ops1) (length ops1 + 1) old y z (omega arith) did.1 moves), record {
-          inside = λ k q in_. ⊎_elim (λ (lt : k < n). put_other (w + n) (w + k) v y.values (λ e. absurd (omega (arith, e, lt))) ∙ m.inside k q (sym (get_left rs (r ∷ []) k lt) ∙ in_)) (λ (le : n ≤ k). let b = get_some (rs ++ r ∷ []) k q in_ in let e : k ≡ n = omega (arith, le, b, lr) in let same_r = last k q e in_ in ap (λ j. z.values (w + j)) e ∙ put_same (w + n) v y.values ∙ v_is ∙ ap old.values same_r) (cases_lt k n);
-          outside = λ k o. put_other (w + n) k v y.values (λ e. absurd (omega (arith, e, o, lr))) ∙ m.outside k (⊎_elim (λ a. inl a) (λ g. inr (omega (arith, g, lr))) o);
-          turns = m.turns;
-          reads = m.reads;
-        });
-    }
-  where
-    left : (k q : ℕ) → slice_get rs k ≡ Some q → slice_get (rs ++ r ∷ []) k ≡ Some q
-    left k q at = get_left rs (r ∷ []) k (get_some rs k q at) ∙ at
-
-    last : (k q : ℕ) → k ≡ length rs → slice_get (rs ++ r ∷ []) k ≡ Some q → r ≡ q
-    last k q e at = let s : Some r ≡ Some q = sym (get_seam rs r) ∙ ap (slice_get (rs ++ r ∷ [])) (sym e) ∙ at in cc s
+use Rattle.osl_gencode.proofs.BlockMoves.{Moved, MoveCode, held_by, CanMove, le_gap}
 
 -- what the block begins with: the frame, and the zeros of the result
 abbrev pub begins : List (List AnyValue) → List Ty → List Ty → ℕ → AnyValue
@@ -112,13 +49,13 @@ zero_right types result j k ty e at = ap (λ o. elim o [ None ↦ Parts [] | Som
 
 -- ---- the frame and the place of the result are one block
 
-module _ (b inner : Body) (result : List Ty) (syms0 syms1 : List Symbol) (ps : List ArgPlace) (rs : List ℕ)
+module _ (b inner : Body) (result : List Ty) (syms0 syms1 : List Symbol) (ps : List ArgPlace) (rs : List (Option ℕ))
     (count : length rs ≡ length inner.types + length result)
     -- the block's symbols are variables, after the sources
     (vars : (syms : List Symbol) → Extends syms1 syms → (k : ℕ) (ty : Ty) → slice_get (inner.types ++ result) k ≡ Some ty → IsVariable syms (inner.shift + k) ty)
-    (low : (k r : ℕ) → slice_get rs k ≡ Some r → (b.params ≤ r) × (r < inner.shift))
+    (low : (k r : ℕ) → slice_get rs k ≡ Some (Some r) → (b.params ≤ r) × (r < inner.shift))
     -- the sources hold what the block begins with
-    (shown : (syms : List Symbol) (passed : List Passed) (old : R.State) → Extends syms1 syms → HoldsConsts syms old → AllPassed ps passed old → (k r : ℕ) → slice_get rs k ≡ Some r → old.values r ≡ begins (map value_passed passed) inner.types result k)
+    (shown : (syms : List Symbol) (passed : List Passed) (old : R.State) → Extends syms1 syms → HoldsConsts syms old → AllPassed ps passed old → (k : ℕ) (o : Option ℕ) → slice_get rs k ≡ Some o → held_by old o ≡ begins (map value_passed passed) inner.types result k)
     (typed : (passed : List Passed) (old : R.State) → AllPassed ps passed old → (k : ℕ) (ty : Ty) → slice_get (inner.types ++ result) k ≡ Some ty → type_of (begins (map value_passed passed) inner.types result k) ≡ ty)
     (short : (passed : List Passed) (old : R.State) → AllPassed ps passed old → length (flat_map (λ arg. arg) (map value_passed passed)) ≤ length inner.types) where
   block_length : length (inner.types ++ result) ≡ length rs
@@ -152,11 +89,6 @@ module _ (b inner : Body) (result : List Ty) (syms0 syms1 : List Symbol) (ps : L
           let t = get_there (inner.types ++ result) j (omega (arith, lt, block_length)) in
           let v = vars syms ext j (t.0) (t.1) in
           let h = v.here in let f = v.free in let q = ap (slice_get syms) e in absurd (cc (here, is, h, f, q))
-
-      le_gap : (n k : ℕ) → n ≤ k → (d : ℕ) × (k ≡ n + d)
-      le_gap zero k le = (k, omega arith)
-      le_gap (suc n) zero le = absurd (omega (arith, le))
-      le_gap (suc n) (suc k) le = let p = le_gap n k (omega (arith, le)) in let e = p.1 in (p.0, omega (arith, e))
 
       apart : (k : ℕ) (symbol : Symbol) → slice_get syms k ≡ Some symbol → is_const symbol.class ≡ true → (k < inner.shift) ⊎ (inner.shift + length rs ≤ k)
       apart k symbol here is =

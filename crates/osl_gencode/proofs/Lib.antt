@@ -12,10 +12,10 @@ pub mod Targets
 pub mod Assignments
 pub mod LoopsAgree
 pub mod LoopOps
-pub mod WhileNode
 pub mod IfNode
 pub mod InlinedBodies
 pub mod CallNode
+pub mod BlockMoves
 pub mod FrameFilling
 pub mod SectionRuns
 pub mod NestedRanges
@@ -26,3 +26,7 @@ pub mod VariableReads
 pub mod PartOfNode
 pub mod Branches
 pub mod CopyingBack
+pub mod OrNode
+pub mod ChooseNode
+pub mod Statements
+pub mod LoopNodes

@@ -14,9 +14,9 @@ use Rattle.osl_typed.specs.Statements.{tested}
 use Rattle.osl_gencode.specs.Bodies.{Body, frame_end}
 use Rattle.osl_gencode.specs.Relation.{Related, Kept, Held}
 use Rattle.osl_gencode.specs.RunEnds.{Finishes, Comes, GivesCode, DoesCode}
-use Rattle.osl_gencode.proofs.RangeRuns.{step, whole, whole_end}
-use Rattle.osl_gencode.proofs.RelatedStates.{kept_on, kept_older}
-use Rattle.osl_gencode.proofs.Sequels.{kept_more}
+use Rattle.osl_gencode.proofs.RangeRuns.{step, whole, whole_end, leads_self}
+use Rattle.osl_gencode.proofs.RelatedStates.{kept_on, kept_older, kept_self}
+use Rattle.osl_gencode.proofs.Sequels.{kept_more, does_after}
 use Rattle.osl_gencode.proofs.LoopsAgree.{Same, SameTest, looped_same}
 
 -- the int in symbol c says whether a value holds
@@ -73,6 +73,12 @@ module _ (b : Body) (from : R.Sources) (steps : List Step) (syms : List Symbol) 
   tests_code s0 c i m old (Gives vs s) (new, cm, t) = decided s0 c i m old s new (holds vs) cm t
   tests_code s0 c i m old (expression.Exits s) g = g
   tests_code s0 c i m old (expression.Spent s) g = g
+
+  -- what is kept more is kept less
+  pub tests_less : (s0 s1 c i m : ℕ) (old : R.State) (t : Tested) → s0 ≤ s1 → i ≤ m → TestsCode s1 c i m old t → TestsCode s0 c i m old t
+  tests_less s0 s1 c i m old (Holds s) le order (y, cm, is) = (y, record { leads = cm.leads; related = cm.related; kept = kept_on b s0 s1 old old y le (kept_self b s0 old) cm.kept }, is)
+  tests_less s0 s1 c i m old (Fails s) le order (y, cm, is) = (y, record { leads = cm.leads; related = cm.related; kept = kept_on b s0 s1 old old y le (kept_self b s0 old) cm.kept }, is)
+  tests_less s0 s1 c i m old (Ends o) le order d = does_after b from steps syms types s0 s1 i i m old old o le order (leads_self from steps i old) (kept_self b s0 old) d
 
   module _ (s0 : ℕ) (start : R.State) where
     abbrev I : State → R.State → Type 0

@@ -16,6 +16,12 @@ use Rattle.osl_gencode.specs.RunEnds.{Leads, GivesCode, DoesCode}
 use Rattle.osl_gencode.proofs.RangeRuns.{leads_self, leads_on, leads_end, end_later, branch_leads, branch_ends, taken_from, taken_to}
 use Rattle.osl_gencode.proofs.RelatedStates.{kept_on, kept_self}
 
+-- an end with what it gives
+pub gives_back : {A : Type 0} (end : ExpressionEnd A) → then_value end (λ a s. Gives a s) ≡ end
+gives_back (Gives a s) = refl
+gives_back (expression.Exits s) = refl
+gives_back (expression.Spent s) = refl
+
 module _ (b : Body) (from : R.Sources) (steps : List Step) (syms : List Symbol) where
   -- ---- expressions
 
