@@ -106,26 +106,29 @@ module _ (b : Body) (loud : b.calm ≡ false) (rt : Root) (part : Part) (ty vty 
       record {
         grows = c.grows;
         runs = λ inputs from steps syms both src cod wired cov ext rel p.
-          let extE = extends_on symsE syms1 syms c.grows.syms ext in
-          let extS = extends_on symsN symsE syms extN extE in
-          let ext00 = extends_on syms0 symsN syms ext0 extS in
-          let var = variable_later syms0 syms w ty ext00 t.variable in
-          let is = map single (both.0) in
-          let all = unwired_append b (firsts ps) cs unwired (named_unwired b symsN part.component cs name) in
-          let did = c.runs from steps syms cod cov ext var (t.own inputs from wired) (all_own b inputs from (firsts ps ++ cs) wired all) (own inputs from wired) (λ j l. above_own b syms0 room j (omega (arith, rw, l0, lN, l)) inputs from wired) (omega (arith, low, rw, l0, lN)) below_r ne (below_append (length symsE) w (firsts ps) cs below (named_below b symsN syms part.component cs (length symsE) w ty extS lN var name)) in
-          let y = did.0 in
-          let values = indices_are b symsN syms part ps cs (both.0) src cod extS name one p.0 rel in
-          let new_is = value_in r vty (both.1) cod p.1 in
-          let v = with_selected ty (t.leaf src) (all_indices part is) (single (both.1)) in
-          let v_is : with_selected ty (cod.values w) (map cod.values (firsts ps ++ cs)) (cod.values r) ≡ v = ap (λ z. with_selected ty z (map cod.values (firsts ps ++ cs)) (cod.values r)) (t.holds syms src cod rel) ∙ ap (λ z. with_selected ty (t.leaf src) z (cod.values r)) values ∙ ap (with_selected ty (t.leaf src) (all_indices part is)) (new_is.0) in
-          let st = subst (λ z. Stored syms w z (length symsE) cod y) v_is did.2 in
-          let typed : type_of v ≡ ty = stored_type ty (t.leaf src) (all_indices part is) (single (both.1)) sound (t.typed syms src cod rel) (λ none. new_is.1 ∙ same (empty_map cod.values (firsts ps ++ cs) (values ∙ none))) in
-          let rel1 = t.related syms (length symsE) v src cod y ext00 (omega (arith, rw, l0, lN)) typed st rel in
-          (y, record {
-            leads = did.1;
-            related = subst (λ z. Related b syms z y) (sym (t.writes inputs is (both.1) src)) rel1;
-            kept = kept_target b syms0 rt part ty w t loud syms (length symsE) v cod y st;
-          }, in_other r w (length symsE) vty (both.1) cod y ne below_r st.others p.1);
+            let extE = extends_on symsE syms1 syms c.grows.syms ext in
+            let extS = extends_on symsN symsE syms extN extE in
+            let ext00 = extends_on syms0 symsN syms ext0 extS in
+            let var = variable_later syms0 syms w ty ext00 t.variable in
+            let is = map single (both.0) in
+            let all = unwired_append b (firsts ps) cs unwired (named_unwired b symsN part.component cs name) in
+            let did = c.runs from steps syms cod cov ext var (t.own inputs from wired) (all_own b inputs from (firsts ps ++ cs) wired all) (own inputs from wired) (λ j l. above_own b syms0 room j (omega (arith, rw, l0, lN, l)) inputs from wired) (omega (arith, low, rw, l0, lN)) below_r ne (below_append (length symsE) w (firsts ps) cs below (named_below b symsN syms part.component cs (length symsE) w ty extS lN var name)) in
+            let y = did.0 in
+            let values = indices_are b symsN syms part ps cs (both.0) src cod extS name one p.0 rel in
+            let new_is = value_in r vty (both.1) cod p.1 in
+            let v = with_selected ty (t.leaf src) (all_indices part is) (single (both.1)) in
+            let v_is : with_selected ty (cod.values w) (map cod.values (firsts ps ++ cs)) (cod.values r) ≡ v = ap (λ z. with_selected ty z (map cod.values (firsts ps ++ cs)) (cod.values r)) (t.holds syms src cod rel) ∙ ap (λ z. with_selected ty (t.leaf src) z (cod.values r)) values ∙ ap (with_selected ty (t.leaf src) (all_indices part is)) (new_is.0) in
+            let st = subst (λ z. Stored syms w z (length symsE) cod y) v_is did.2 in
+            let typed : type_of v ≡ ty = stored_type ty (t.leaf src) (all_indices part is) (single (both.1)) sound (t.typed syms src cod rel) (λ none. new_is.1 ∙ same (empty_map cod.values (firsts ps ++ cs) (values ∙ none))) in
+            let rel1 = t.related syms (length symsE) v src cod y ext00 (omega (arith, rw, l0, lN)) typed st rel in (
+              y,
+              record {
+                leads = did.1;
+                related = subst (λ z. Related b syms z y) (sym (t.writes inputs is (both.1) src)) rel1;
+                kept = kept_target b syms0 rt part ty w t loud syms (length symsE) v cod y st;
+              },
+              in_other r w (length symsE) vty (both.1) cod y ne below_r st.others p.1,
+            );
       }
 
   pub assign_code : (ops0 opsI opsE ops1 : List Op) (syms0 symsI symsN symsE syms1 : List Symbol) (indices : Inputs → List Meaning) (sem : Inputs → Meaning) → Room b syms0 → Target b syms0 rt part ty w → HasValues ty → (firsts ps ++ cs ≡ [] → vty ≡ ty)
@@ -147,7 +150,7 @@ module _ (b : Body) (loud : b.calm ≡ false) (rt : Root) (part : Part) (ty vty 
         own = ce.own;
         places = types_later symsE syms1 r (vty ∷ []) c.grows.syms ce.places;
         code = code_as b ops0 ops1 syms0 syms1 Anything (In r (vty ∷ [])) _ _ (λ j inputs a s. sym (meaning inputs s) j) (
-        code_then b ops0 opsE ops1 syms0 symsE syms1 Anything P2 (In r (vty ∷ [])) _ _ (code_then b ops0 opsI opsE syms0 symsN symsE Anything P1 P2 _ _ first second) third);
+            code_then b ops0 opsE ops1 syms0 symsE syms1 Anything P2 (In r (vty ∷ [])) _ _ (code_then b ops0 opsI opsE syms0 symsN symsE Anything P1 P2 _ _ first second) third);
       }
     where
       meaning : (inputs : Inputs) (s : State) → assigned (frame_at b inputs) rt part (indices inputs) (sem inputs) s ≡ then_value (then_value (in_order (indices inputs) s Gives) (λ is s1. then_value (sem inputs s1) (λ v s2. Gives (is, v) s2))) (λ (both : List (List AnyValue) × List AnyValue) s2. Gives (both.1) (write_part (frame_at b inputs) rt part (map single (both.0)) (both.1) s2))

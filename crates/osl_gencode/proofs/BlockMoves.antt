@@ -98,25 +98,28 @@ move_more ops0 ops1 w o rs c =
     record {
       grows = extends_on ops0 ops1 (ops1 ++ op ∷ []) c.grows (extends_push ops1 op);
       runs = λ from steps syms old cov can.
-        let here : slice_get (rs ++ o ∷ []) n ≡ Some o = get_seam rs o in
-        let can0 : CanMove from syms w rs old = record { typed = λ k q at. can.typed k q (left k q at); own = λ k q at. can.own k q (left k (Some q) at); apart = λ k q at. (⊎_elim (λ l. inl l) (λ g. inr (omega (arith, g, lr))) (can.apart k q (left k (Some q) at))) } in
-        let did = c.runs from steps syms old (covers_before syms steps ops1 (ops1 ++ op ∷ []) (length ops0) (length ops0) (omega arith) (extends_push ops1 op) cov) can0 in
-        let y = did.0 in
-        let m = did.2 in
-        let same : (r : ℕ) → o ≡ Some r → y.values r ≡ old.values r = λ r e. m.outside r (⊎_elim (λ l. inl l) (λ g. inr (omega (arith, g, lr))) (can.apart n r (here ∙ ap Some e))) in
-        let ty = type_of (held_by old o) in
-        let v = apply (fill_name o) ty (map y.values (fill_args o)) in
-        let v_is : v ≡ held_by old o = fill_value o old y same in
-        let z = R.write (w + n) v (R.ticked y) in
-        let p = fill_plain o in
-        let at = at_push syms steps ops1 op (length ops0) l cov ∙ ap Some (reading_step syms (length ops1) (fill_name o) (w + n) ty (fill_args o) p.0 p.1 (can.typed n o here)) in
-        let moves = compute_leads from steps (length ops1) (w + n) (fill_name o) ty (fill_args o) y at (fill_own from o (λ r e. can.own n r (here ∙ ap Some e))) in
-        (z, subst (λ q. Leads from steps (length ops0) q old z) (sym (push_length ops1 op)) (leads_on from steps (length ops0) (length ops1) (length ops1 + 1) old y z (omega arith) did.1 moves), record {
-          inside = λ k q in_. ⊎_elim (λ (lt : k < n). put_other (w + n) (w + k) v y.values (λ e. absurd (omega (arith, e, lt))) ∙ m.inside k q (sym (get_left rs (o ∷ []) k lt) ∙ in_)) (λ (le : n ≤ k). let b = get_some (rs ++ o ∷ []) k q in_ in let e : k ≡ n = omega (arith, le, b, lr) in let same_o = last k q e in_ in ap (λ j. z.values (w + j)) e ∙ put_same (w + n) v y.values ∙ v_is ∙ ap (held_by old) same_o) (cases_lt k n);
-          outside = λ k h. put_other (w + n) k v y.values (λ e. absurd (omega (arith, e, h, lr))) ∙ m.outside k (⊎_elim (λ a. inl a) (λ g. inr (omega (arith, g, lr))) h);
-          turns = m.turns;
-          reads = m.reads;
-        });
+          let here : slice_get (rs ++ o ∷ []) n ≡ Some o = get_seam rs o in
+          let can0 : CanMove from syms w rs old = record { typed = λ k q at. can.typed k q (left k q at); own = λ k q at. can.own k q (left k (Some q) at); apart = λ k q at. (⊎_elim (λ l. inl l) (λ g. inr (omega (arith, g, lr))) (can.apart k q (left k (Some q) at))) } in
+          let did = c.runs from steps syms old (covers_before syms steps ops1 (ops1 ++ op ∷ []) (length ops0) (length ops0) (omega arith) (extends_push ops1 op) cov) can0 in
+          let y = did.0 in
+          let m = did.2 in
+          let same : (r : ℕ) → o ≡ Some r → y.values r ≡ old.values r = λ r e. m.outside r (⊎_elim (λ l. inl l) (λ g. inr (omega (arith, g, lr))) (can.apart n r (here ∙ ap Some e))) in
+          let ty = type_of (held_by old o) in
+          let v = apply (fill_name o) ty (map y.values (fill_args o)) in
+          let v_is : v ≡ held_by old o = fill_value o old y same in
+          let z = R.write (w + n) v (R.ticked y) in
+          let p = fill_plain o in
+          let at = at_push syms steps ops1 op (length ops0) l cov ∙ ap Some (reading_step syms (length ops1) (fill_name o) (w + n) ty (fill_args o) p.0 p.1 (can.typed n o here)) in
+          let moves = compute_leads from steps (length ops1) (w + n) (fill_name o) ty (fill_args o) y at (fill_own from o (λ r e. can.own n r (here ∙ ap Some e))) in (
+            z,
+            subst (λ q. Leads from steps (length ops0) q old z) (sym (push_length ops1 op)) (leads_on from steps (length ops0) (length ops1) (length ops1 + 1) old y z (omega arith) did.1 moves),
+            record {
+              inside = λ k q in_. ⊎_elim (λ (lt : k < n). put_other (w + n) (w + k) v y.values (λ e. absurd (omega (arith, e, lt))) ∙ m.inside k q (sym (get_left rs (o ∷ []) k lt) ∙ in_)) (λ (le : n ≤ k). let b = get_some (rs ++ o ∷ []) k q in_ in let e : k ≡ n = omega (arith, le, b, lr) in let same_o = last k q e in_ in ap (λ j. z.values (w + j)) e ∙ put_same (w + n) v y.values ∙ v_is ∙ ap (held_by old) same_o) (cases_lt k n);
+              outside = λ k h. put_other (w + n) k v y.values (λ e. absurd (omega (arith, e, h, lr))) ∙ m.outside k (⊎_elim (λ a. inl a) (λ g. inr (omega (arith, g, lr))) h);
+              turns = m.turns;
+              reads = m.reads;
+            },
+          );
     }
   where
     left : (k : ℕ) (q : Option ℕ) → slice_get rs k ≡ Some q → slice_get (rs ++ o ∷ []) k ≡ Some q
@@ -177,13 +180,16 @@ module _ (b : Body) where
         own = λ k r at. src.own k r at inputs from wired;
         apart = λ k r at. (⊎_elim (λ l. inl l) (λ g. inr (omega (arith, g, n, m))) (src.apart k r at));
       } in
-      let did = c.runs from steps syms x cov can in
-      (did.0, did.1, record {
-        inside = record { each = λ k v at. let lt = get_some vs k v at in let o = get_there rs k (omega (arith, lt, m)) in did.2.inside k (o.0) (o.1) ∙ same_some (held_by x (o.0)) v (sym (held.values k (o.0) (o.1)) ∙ at) };
-        outside = λ k h. did.2.outside k (⊎_elim (λ l. inl l) (λ g. inr (omega (arith, g, m))) h);
-        turns = did.2.turns;
-        reads = did.2.reads;
-      })
+      let did = c.runs from steps syms x cov can in (
+        did.0,
+        did.1,
+        record {
+          inside = record { each = λ k v at. let lt = get_some vs k v at in let o = get_there rs k (omega (arith, lt, m)) in did.2.inside k (o.0) (o.1) ∙ same_some (held_by x (o.0)) v (sym (held.values k (o.0) (o.1)) ∙ at) };
+          outside = λ k h. did.2.outside k (⊎_elim (λ l. inl l) (λ g. inr (omega (arith, g, m))) h);
+          turns = did.2.turns;
+          reads = did.2.reads;
+        },
+      )
     where
       same_some : (u v : AnyValue) → Some u ≡ Some v → u ≡ v
       same_some u v e = cc e
@@ -226,20 +232,23 @@ module _ (b : Body) where
       record {
         grows = record { ops = extends_on ops0 ops1 ops2 c.code.grows.ops m.grows; syms = extends_on syms0 symsT syms1 ext0 c.code.grows.syms };
         runs = λ inputs from steps syms a src cod wired cov ext rel nothing.
-          let extT = extends_on symsT syms1 syms c.code.grows.syms ext in
-          let roomS = room_later b syms0 syms (extends_on syms0 symsT syms ext0 extT) room in
-          let ran = c.code.runs inputs from steps syms tt src cod wired (covers_before syms steps ops1 ops2 (length ops0) (length ops0) (omega arith) m.grows cov) ext rel tt in
-          let ran1 = gives_less b from steps syms (In r types) (length syms0) (length symsT) (length ops0) (length ops1) cod (sem inputs src) l l0 ran in
-          subst (GivesCode b from steps syms (length syms0) (In t types) (length ops0) (length ops2) cod) (gives_back (sem inputs src)) (
-          seq_code b from steps syms (In r types) (In t types) (length syms0) (length syms0) (length ops0) (length ops1) (length ops2) cod (sem inputs src) (λ v s. Gives v s) (omega arith) l1 ran1 (λ v s x rel1 kept1 p.
+            let extT = extends_on symsT syms1 syms c.code.grows.syms ext in
+            let roomS = room_later b syms0 syms (extends_on syms0 symsT syms ext0 extT) room in
+            let ran = c.code.runs inputs from steps syms tt src cod wired (covers_before syms steps ops1 ops2 (length ops0) (length ops0) (omega arith) m.grows cov) ext rel tt in
+            let ran1 = gives_less b from steps syms (In r types) (length syms0) (length symsT) (length ops0) (length ops1) cod (sem inputs src) l l0 ran in
+            subst (GivesCode b from steps syms (length syms0) (In t types) (length ops0) (length ops2) cod) (gives_back (sem inputs src)) (
+            seq_code b from steps syms (In r types) (In t types) (length syms0) (length syms0) (length ops0) (length ops1) (length ops2) cod (sem inputs src) (λ v s. Gives v s) (omega arith) l1 ran1 (λ v s x rel1 kept1 p.
             let varsS = variables_later symsT syms t types extT vars in
             let did = block_moves b ops1 ops2 t rs types v inputs from steps syms x m wired (covers_before syms steps ops2 ops2 (length ops0) (length ops1) l0 (extends_self ops2) cov) varsS (row_sources b t r (length types) rs row c.own apart) (row_held rs r types v x row p) in
-            let n : length v ≡ length types = sym (length-map v type_of) ∙ ap length p.typed in
-            (did.0, record {
-              leads = did.1;
-              related = related_temp b syms roomS t v s x did.0 (omega (arith, rw, later)) (λ k symbol here is. ⊎_elim (λ a. inl a) (λ g. inr (omega (arith, g, n))) (consts_apart syms t types varsS k symbol here is)) did.2 rel1;
-              kept = kept_temp b syms roomS (length syms0) t v x did.0 later did.2;
-            }, record { held = did.2.inside; typed = p.typed })));
+            let n : length v ≡ length types = sym (length-map v type_of) ∙ ap length p.typed in (
+              did.0,
+              record {
+                leads = did.1;
+                related = related_temp b syms roomS t v s x did.0 (omega (arith, rw, later)) (λ k symbol here is. ⊎_elim (λ a. inl a) (λ g. inr (omega (arith, g, n))) (consts_apart syms t types varsS k symbol here is)) did.2 rel1;
+                kept = kept_temp b syms roomS (length syms0) t v x did.0 later did.2;
+              },
+              record { held = did.2.inside; typed = p.typed },
+            )));
       }
 
 -- ---- a value is written into a variable
@@ -315,9 +324,9 @@ module _ (b : Body) (syms : List Symbol) (room : Room b syms) (k0 w : ℕ) (type
       outside : (k : ℕ) → (k < b.start) ⊎ (frame_end b ≤ k) → (k < w) ⊎ (w ≤ k) → (k < w) ⊎ (w + length vs ≤ k)
       outside k o (inl l) = inl l
       outside k o (inr h) = ⊎_elim (λ (l : k < w + length vs).
-        let d = le_gap w k h in let e = d.1 in
-        let j_lt : d.0 < length types = (let c = count in omega (arith, e, l, c)) in
-        let t = get_there types (d.0) j_lt in
-        let p = leaf_within b syms room (k0 + d.0) (get_some b.types (k0 + d.0) (t.0) (leaves.typed (d.0) (t.0) (t.1))) in
-        let p0 = p.0 in let p1 = p.1 in let s = leaves.symbols (d.0) j_lt in
-        absurd (omega (arith, o, p0, p1, s, e))) (λ g. inr g) (cases_lt k (w + length vs))
+          let d = le_gap w k h in let e = d.1 in
+          let j_lt : d.0 < length types = (let c = count in omega (arith, e, l, c)) in
+          let t = get_there types (d.0) j_lt in
+          let p = leaf_within b syms room (k0 + d.0) (get_some b.types (k0 + d.0) (t.0) (leaves.typed (d.0) (t.0) (t.1))) in
+          let p0 = p.0 in let p1 = p.1 in let s = leaves.symbols (d.0) j_lt in
+          absurd (omega (arith, o, p0, p1, s, e))) (λ g. inr g) (cases_lt k (w + length vs))

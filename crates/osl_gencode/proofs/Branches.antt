@@ -34,12 +34,12 @@ module _ (b : Body) {A : Type 0} where
       record {
         grows = record { ops = extends_push ops op; syms = ext0 };
         runs = λ inputs from steps syms a src cod wired cov ext rel p.
-          let varS = variable_later syms1 syms w ty ext var in
-          let roomS = room_later b syms0 syms (extends_on syms0 syms1 syms ext0 ext) room in
-          let at = at_push syms steps ops op (length ops) (omega arith) cov ∙ ap Some (reading_step syms (length ops) name w ty rs plain reads varS) in
-          let done = op_gives b from steps syms roomS (length syms0) (length ops) w name ty rs src cod later (omega (arith, rw, later)) varS sound at (all_own b inputs from rs wired all) rel in
-          subst (λ z. GivesCode b from steps syms (length syms0) (In w (ty ∷ [])) (length ops) z cod (Gives (apply name ty (values a) ∷ []) src)) (sym len)
-          (subst (λ vs. GivesCode b from steps syms (length syms0) (In w (ty ∷ [])) (length ops) (length ops + 1) cod (Gives (apply name ty vs ∷ []) src)) (vals a cod p) done);
+            let varS = variable_later syms1 syms w ty ext var in
+            let roomS = room_later b syms0 syms (extends_on syms0 syms1 syms ext0 ext) room in
+            let at = at_push syms steps ops op (length ops) (omega arith) cov ∙ ap Some (reading_step syms (length ops) name w ty rs plain reads varS) in
+            let done = op_gives b from steps syms roomS (length syms0) (length ops) w name ty rs src cod later (omega (arith, rw, later)) varS sound at (all_own b inputs from rs wired all) rel in
+            subst (λ z. GivesCode b from steps syms (length syms0) (In w (ty ∷ [])) (length ops) z cod (Gives (apply name ty (values a) ∷ []) src)) (sym len)
+            (subst (λ vs. GivesCode b from steps syms (length syms0) (In w (ty ∷ [])) (length ops) (length ops + 1) cod (Gives (apply name ty vs ∷ []) src)) (vals a cod p) done);
       }
 
 module _ (b : Body) {O A B : Type 0} (P0 : Shows O) (P : Shows A) (Q : Shows B) (test : A → Bool) (q : ℕ) where
@@ -58,14 +58,14 @@ module _ (b : Body) {O A B : Type 0} (P0 : Shows O) (P : Shows A) (Q : Shows B) 
       record {
         grows = record { ops = extends_on ops0 opsC opsE cc.grows.ops toE; syms = extends_on syms0 symsC symsB cc.grows.syms cb.grows.syms };
         runs = λ inputs from steps syms o src cod wired cov ext rel p0.
-          let extA = extends_on symsA symsB syms extAB ext in
-          let extC = extends_on symsC symsB syms cb.grows.syms ext in
-          let roomS = room_later b syms0 syms (extends_on syms0 symsC syms cc.grows.syms extC) room in
-          let at = at_set syms steps opsB i (length ops0) jump l0 (omega (arith, lX, lA, lB)) cov ∙ ap Some (if_step syms i q (length opsA) (length opsB)) in
-          let covB = covers_after syms steps opsB i (length ops0) (i + 1) jump (omega (arith, l0)) (omega arith) cov in
-          let ran = cc.runs inputs from steps syms o src cod wired (covers_before syms steps opsC opsE (length ops0) (length ops0) (omega arith) toE cov) extC rel p0 in
-          subst (λ z. GivesCode b from steps syms (length syms0) Q (length ops0) z cod (then_value (f inputs o src) (λ a s1. if test a then g inputs a s1 else h inputs a s1))) (sym lE) (
-          seq_code b from steps syms P Q (length syms0) (length symsC) (length ops0) i (length opsB) cod (f inputs o src) (λ a s1. if test a then g inputs a s1 else h inputs a s1) kC (omega (arith, lX, lA, lB)) ran (λ a s y rel1 kept1 p.
+            let extA = extends_on symsA symsB syms extAB ext in
+            let extC = extends_on symsC symsB syms cb.grows.syms ext in
+            let roomS = room_later b syms0 syms (extends_on syms0 symsC syms cc.grows.syms extC) room in
+            let at = at_set syms steps opsB i (length ops0) jump l0 (omega (arith, lX, lA, lB)) cov ∙ ap Some (if_step syms i q (length opsA) (length opsB)) in
+            let covB = covers_after syms steps opsB i (length ops0) (i + 1) jump (omega (arith, l0)) (omega arith) cov in
+            let ran = cc.runs inputs from steps syms o src cod wired (covers_before syms steps opsC opsE (length ops0) (length ops0) (omega arith) toE cov) extC rel p0 in
+            subst (λ z. GivesCode b from steps syms (length syms0) Q (length ops0) z cod (then_value (f inputs o src) (λ a s1. if test a then g inputs a s1 else h inputs a s1))) (sym lE) (
+            seq_code b from steps syms P Q (length syms0) (length symsC) (length ops0) i (length opsB) cod (f inputs o src) (λ a s1. if test a then g inputs a s1 else h inputs a s1) kC (omega (arith, lX, lA, lB)) ran (λ a s y rel1 kept1 p.
             let tick = related_ticked b syms roomS s y rel1 in
             let one = subst (λ z. GivesCode b from steps syms (length symsC) Q z (length opsA) (R.ticked y) (g inputs a s)) lX (ca.runs inputs from steps syms a s (R.ticked y) wired (covers_before syms steps opsA opsB (i + 1) (length opsX) (omega (arith, lX)) cb.grows.ops covB) extA tick (ticks a y p)) in
             let two = cb.runs inputs from steps syms a s (R.ticked y) wired (covers_before syms steps opsB opsB (i + 1) (length opsA) (omega (arith, lX, lA)) (extends_self opsB) covB) ext tick (ticks a y p) in

@@ -111,10 +111,13 @@ unfolding finals_from
 finals_in inner at [] s x fit vars = tt
 finals_in inner at (f ∷ fs) s x fit vars =
     let n = leaf_count inner.structures f.kind in
-    let e = leaves_length s.vars at n in
-    (record { each = λ k v here. let l = get_some (leaves_at s.vars at n) k v here in let f0 = fit.0 in
-      (let q : inner.shift + at + k ≡ inner.shift + (at + k) = omega arith in ap x.values q ∙ vars (at + k) (omega (arith, l, e, f0)) ∙ leaf_is s.vars at n k v here) },
-    subst (λ z. FinalsIn inner (at + z) (finals_from inner.structures (at + n) fs s.vars) x) (sym e) (finals_in inner (at + n) fs s x fit.1 vars))
+    let e = leaves_length s.vars at n in (
+      record {
+        each = λ k v here. let l = get_some (leaves_at s.vars at n) k v here in let f0 = fit.0 in
+            (let q : inner.shift + at + k ≡ inner.shift + (at + k) = omega arith in ap x.values q ∙ vars (at + k) (omega (arith, l, e, f0)) ∙ leaf_is s.vars at n k v here);
+      },
+      subst (λ z. FinalsIn inner (at + z) (finals_from inner.structures (at + n) fs s.vars) x) (sym e) (finals_in inner (at + n) fs s x fit.1 vars),
+    )
 
 -- ---- the node
 
@@ -138,23 +141,28 @@ module _ (b inner : Body) where
       let held = subst (λ z. FinalsIn inner 0 z y) (sym c.ends) (finals_in inner 0 formals s' y fit (λ k h. (let e = high_symbol inner k (omega (arith, split)) in sym (ap y.values e)) ∙ c.related.vars k h)) in
       let done = back.runs inputs from steps syms passed finals (record { vars = s.vars; globals = s.globals; turns = turns; reads = reads }) y wired cov ext rel1 (indices_kept (length syms1) ps passed x0 y low indexed all) held (ap (map (map type_of)) c.ends ∙ finals_typed inner 0 formals s' fitted c.related.typed) in
       let z = done.0 in
-      let kept : Kept b (length syms1) x z = record { keeps = λ k h o. done.3.keeps k (omega (arith, h, sB)) o ∙ c.low k (omega (arith, h, later)); all = λ calm k h. done.3.all calm k (omega (arith, h, sB)) ∙ c.low k (omega (arith, h, later)) } in
-      (z, record {
-        leads = leads_on from steps i m (length ops2) x y z (let l = back.grows.ops.longer in omega (arith, l, is_m)) c.leads (subst (λ q. Leads from steps q (length ops2) y z) (sym is_m) done.1);
-        related = done.2;
-        kept = kept;
-      }, record {
-        held = record { each = λ k v at. let l = get_some result k v at in let e : length result ≡ length types = sym (length-map result type_of) ∙ ap length c.typed in done.3.keeps (frame_end inner + k) (omega (arith, l, e, within)) (inr (omega (arith, le, later, first))) ∙ c.holds.each k v at };
-        typed = c.typed;
-      })
+      let kept : Kept b (length syms1) x z = record { keeps = λ k h o. done.3.keeps k (omega (arith, h, sB)) o ∙ c.low k (omega (arith, h, later)); all = λ calm k h. done.3.all calm k (omega (arith, h, sB)) ∙ c.low k (omega (arith, h, later)) } in (
+        z,
+        record {
+          leads = leads_on from steps i m (length ops2) x y z (let l = back.grows.ops.longer in omega (arith, l, is_m)) c.leads (subst (λ q. Leads from steps q (length ops2) y z) (sym is_m) done.1);
+          related = done.2;
+          kept = kept;
+        },
+        record {
+          held = record { each = λ k v at. let l = get_some result k v at in let e : length result ≡ length types = sym (length-map result type_of) ∙ ap length c.typed in done.3.keeps (frame_end inner + k) (omega (arith, l, e, within)) (inr (omega (arith, le, later, first))) ∙ c.holds.each k v at };
+          typed = c.typed;
+        },
+      )
   called_gives from steps syms inputs types formals syms1 symsB syms2 opsJ ops2 ps passed i m s x0 x (Left turns reads) room le later first split within sB same_s is_m order fit fitted indexed all low0 wired cov ext rel back (s', y, c) =
       let low : (k : ℕ) → k < length syms1 → y.values k ≡ x0.values k = λ k lt. c.low k (omega (arith, lt, later)) ∙ low0 k lt in
-      let rel1 = back_related b syms room (length syms1) turns reads s x0 y le low (c.related.turns ∙ c.left) (c.related.reads ∙ c.seen) c.related.consts rel in
-      (y, record {
-        finishes = end_later from steps i m (length ops2) x (R.Jumps Exit y) (let l = back.grows.ops.longer in omega (arith, l, is_m)) c.finishes;
-        related = rel1;
-        kept = kept_older b (length syms1) x y (λ k h. c.low k (omega (arith, h, later)));
-      })
+      let rel1 = back_related b syms room (length syms1) turns reads s x0 y le low (c.related.turns ∙ c.left) (c.related.reads ∙ c.seen) c.related.consts rel in (
+        y,
+        record {
+          finishes = end_later from steps i m (length ops2) x (R.Jumps Exit y) (let l = back.grows.ops.longer in omega (arith, l, is_m)) c.finishes;
+          related = rel1;
+          kept = kept_older b (length syms1) x y (λ k h. c.low k (omega (arith, h, later)));
+        },
+      )
   called_gives from steps syms inputs types formals syms1 symsB syms2 opsJ ops2 ps passed i m s x0 x (Lost turns reads) room le later first split within sB same_s is_m order fit fitted indexed all low0 wired cov ext rel back (y, c) =
       (y, record { finishes = end_later from steps i m (length ops2) x (R.Spent y) (let l = back.grows.ops.longer in omega (arith, l, is_m)) c.finishes; reads = c.seen })
 
@@ -190,26 +198,26 @@ module _ (b inner : Body) where
         code = record {
           grows = record { ops = extends_on ops0 ops1 ops2 ca.grows.ops ops12; syms = extends_on syms0 syms1 syms2 ca.grows.syms (extends_on syms1 symsF syms2 ce.grows.syms s12) };
           runs = λ inputs from steps syms a src cod wired cov ext rel nothing.
-            let extB = extends_on symsB syms2 syms ck.grows.syms ext in
-            let extF = extends_on symsF symsB syms cb.grows.syms extB in
-            let ext1 = extends_on syms1 symsF syms ce.grows.syms extF in
-            let roomS = room_later b syms0 syms (extends_on syms0 syms1 syms ca.grows.syms ext1) room in
-            let cov1 = covers_before syms steps ops1 ops2 (length ops0) (length ops0) (omega arith) ops12 cov in
-            let covP = covers_before syms steps opsP ops2 (length ops0) (length ops1) lA to2 cov in
-            let covJ = covers_before syms steps opsJ ops2 (length ops0) (length ops0) (omega arith) ck.grows.ops cov in
-            let covK = covers_before syms steps ops2 ops2 (length ops0) (length opsJ) (omega (arith, lA, lE, lX, lB, lJ)) (extends_self ops2) cov in
-            let atJ = at_set syms steps opsB i (length ops0) jump (omega (arith, lA, lE)) (omega (arith, lX, lB)) covJ ∙ ap Some (call_step syms i (length opsB)) in
-            let covB = covers_after syms steps opsB i (length ops0) (length opsX) jump (omega (arith, lA, lE, lX)) (omega (arith, lX)) covJ in
-            let defaults : Inputs = λ k. Default in
-            let wired' : Wired inner defaults from = record {
-              here = λ k j l1 l2. let p = place_of inner.structures inner.kinds k + j in let e = high_symbol inner p (omega (arith, split)) in wired.above (symbol_of inner p) (omega (arith, e, kA, later, first, rw, low));
-              first = λ k o is. absurd (cc is);
-              typed = λ k v ty is at. absurd (cc is);
-              unwired = λ k o is e. absurd (cc e);
-              above = λ k l. wired.above k (omega (arith, l, same_p));
-            } in
-            subst (GivesCode b from steps syms (length syms0) (In (frame_end inner) types) (length ops0) (length ops2) cod) (sym (in_order_then (args inputs) src (go inputs))) (
-            seq_code b from steps syms (AllPassed ps) (In (frame_end inner) types) (length syms0) (length syms1) (length ops0) (length ops1) (length ops2) cod (in_order (args inputs) src Gives) (go inputs) kA ops12.longer (ca.runs inputs from steps syms tt src cod wired cov1 ext1 rel tt) (λ passed s y rel1 kept1 all.
+              let extB = extends_on symsB syms2 syms ck.grows.syms ext in
+              let extF = extends_on symsF symsB syms cb.grows.syms extB in
+              let ext1 = extends_on syms1 symsF syms ce.grows.syms extF in
+              let roomS = room_later b syms0 syms (extends_on syms0 syms1 syms ca.grows.syms ext1) room in
+              let cov1 = covers_before syms steps ops1 ops2 (length ops0) (length ops0) (omega arith) ops12 cov in
+              let covP = covers_before syms steps opsP ops2 (length ops0) (length ops1) lA to2 cov in
+              let covJ = covers_before syms steps opsJ ops2 (length ops0) (length ops0) (omega arith) ck.grows.ops cov in
+              let covK = covers_before syms steps ops2 ops2 (length ops0) (length opsJ) (omega (arith, lA, lE, lX, lB, lJ)) (extends_self ops2) cov in
+              let atJ = at_set syms steps opsB i (length ops0) jump (omega (arith, lA, lE)) (omega (arith, lX, lB)) covJ ∙ ap Some (call_step syms i (length opsB)) in
+              let covB = covers_after syms steps opsB i (length ops0) (length opsX) jump (omega (arith, lA, lE, lX)) (omega (arith, lX)) covJ in
+              let defaults : Inputs = λ k. Default in
+              let wired' : Wired inner defaults from = record {
+                here = λ k j l1 l2. let p = place_of inner.structures inner.kinds k + j in let e = high_symbol inner p (omega (arith, split)) in wired.above (symbol_of inner p) (omega (arith, e, kA, later, first, rw, low));
+                first = λ k o is. absurd (cc is);
+                typed = λ k v ty is at. absurd (cc is);
+                unwired = λ k o is e. absurd (cc e);
+                above = λ k l. wired.above k (omega (arith, l, same_p));
+              } in
+              subst (GivesCode b from steps syms (length syms0) (In (frame_end inner) types) (length ops0) (length ops2) cod) (sym (in_order_then (args inputs) src (go inputs))) (
+              seq_code b from steps syms (AllPassed ps) (In (frame_end inner) types) (length syms0) (length syms1) (length ops0) (length ops1) (length ops2) cod (in_order (args inputs) src Gives) (go inputs) kA ops12.longer (ca.runs inputs from steps syms tt src cod wired cov1 ext1 rel tt) (λ passed s y rel1 kept1 all.
               let en = ce.runs from steps syms passed y covP extF wired.above rel1.consts all in
               let z = en.0 in
               let in_frame = enter_related types (length syms1) syms passed s y z roomS (omega (arith, kA, rw)) split same_g rel1 en.2 in
@@ -218,10 +226,10 @@ module _ (b inner : Body) where
               let ran1 = subst (λ q. DoesCode inner from steps syms (length symsF) types q (length opsB) (R.ticked z) (exec_all (frame_at inner defaults) calls fn.body (entered inner.types (map value_passed passed) s.globals s.turns s.reads))) lX ran in
               let came = inlined from steps i (length opsB) (omega (arith, lX, lB)) atJ inner syms types (length symsF) within (omega (arith, first)) z en.2.zeros sound fn (exec_all (frame_at inner defaults) calls fn.body (entered inner.types (map value_passed passed) s.globals s.turns s.reads)) (is_result ∙ ap (λ q. leaves_of q fn.result) (sym same_s)) ran1 in
               let means : call_end inner.structures fn (exec_all (frame_at inner defaults) calls fn.body (entered inner.types (map value_passed passed) s.globals s.turns s.reads)) ≡ outer f (map value_passed passed) s.globals s.turns s.reads
-                  = ap (λ q. call_end q fn (exec_all (record { structures = q; kinds = inner.kinds; inputs = defaults }) calls fn.body (entered inner.types (map value_passed passed) s.globals s.turns s.reads))) same_s
-                  ∙ ap (λ q. call_end b.structures fn (exec_all (record { structures = b.structures; kinds = q; inputs = defaults }) calls fn.body (entered inner.types (map value_passed passed) s.globals s.turns s.reads))) is_kinds
-                  ∙ ap (λ q. call_end b.structures fn (exec_all (function_frame b.structures fn) calls fn.body (entered q (map value_passed passed) s.globals s.turns s.reads))) is_types
-                  ∙ sym (is_call (map value_passed passed) s.globals s.turns s.reads) in
+              = ap (λ q. call_end q fn (exec_all (record { structures = q; kinds = inner.kinds; inputs = defaults }) calls fn.body (entered inner.types (map value_passed passed) s.globals s.turns s.reads))) same_s
+              ∙ ap (λ q. call_end b.structures fn (exec_all (record { structures = b.structures; kinds = q; inputs = defaults }) calls fn.body (entered inner.types (map value_passed passed) s.globals s.turns s.reads))) is_kinds
+              ∙ ap (λ q. call_end b.structures fn (exec_all (function_frame b.structures fn) calls fn.body (entered q (map value_passed passed) s.globals s.turns s.reads))) is_types
+              ∙ sym (is_call (map value_passed passed) s.globals s.turns s.reads) in
               let gives = called_gives from steps syms inputs types fn.formals syms1 symsB syms2 opsJ ops2 ps passed i (length opsB) s y z (outer f (map value_passed passed) s.globals s.turns s.reads) roomS (omega (arith, kA, rw)) later first split (omega (arith, within, kB)) (omega (arith, kE, kB)) same_s (sym lJ) (omega (arith, lX, lB)) fit fitted indexed all en.2.low wired covK ext rel1 ck (subst (CalledCode inner from steps syms types fn.formals i (length opsB) z) means came) in
               gives_after b from steps syms (In (frame_end inner) types) (length syms1) (length syms1) (length ops1) i (length ops2) y z (go inputs passed s) (omega arith) to2.longer en.1 (kept_older b (length syms1) y z (λ k h. en.2.low k h)) gives));
         };

@@ -42,7 +42,7 @@ module _ (b : Body) (t : ℕ) (types : List Ty) where
         own = λ k lt. above_own b syms0 room (t + k) (omega (arith, w, k0, later));
         places = record { each = λ k ty at. variable_typed symsB (t + k) ty (vars.each k ty at) };
         code = code_as b ops0 _ syms0 symsB Anything (In t types) _ _ (λ j inputs u s. then_value (sc inputs s) (λ v s1. exchanged (holds v) (sa inputs s1) (sb inputs s1) j)) (
-        choose_by (λ v. not (holds v)) q ops0 opsC opsA opsB syms0 symsC symsA symsB x sc sb sa room own ext cc ca cb);
+            choose_by (λ v. not (holds v)) q ops0 opsC opsA opsB syms0 symsC symsA symsB x sc sb sa room own ext cc ca cb);
       }
     where
       exchanged : {X : Type 0} (h : Bool) (m n : X) → (if not h then n else m) ≡ (if h then m else n)

@@ -79,8 +79,8 @@ module _ (b : Body) {A B : Type 0} where
       record {
         grows = grows_on ops0 ops1 ops2 syms0 syms1 syms2 c.grows d.grows;
         runs = λ inputs from steps syms a src cod wired cov ext rel p.
-          let ext1 = extends_on syms1 syms2 syms d.grows.syms ext in
-          seq_code b from steps syms Q S (length syms0) (length syms1) (length ops0) (length ops1) (length ops2) cod (f inputs a src) (g inputs) ls l1 (c.runs inputs from steps syms a src cod wired (covers_before syms steps ops1 ops2 (length ops0) (length ops0) (omega arith) d.grows.ops cov) ext1 rel p) (λ v s y rel1 kept1 q.
+            let ext1 = extends_on syms1 syms2 syms d.grows.syms ext in
+            seq_code b from steps syms Q S (length syms0) (length syms1) (length ops0) (length ops1) (length ops2) cod (f inputs a src) (g inputs) ls l1 (c.runs inputs from steps syms a src cod wired (covers_before syms steps ops1 ops2 (length ops0) (length ops0) (omega arith) d.grows.ops cov) ext1 rel p) (λ v s y rel1 kept1 q.
             d.runs inputs from steps syms v s y wired (covers_before syms steps ops2 ops2 (length ops0) (length ops1) l0 (extends_self ops2) cov) ext rel1 q);
       }
 
@@ -90,7 +90,7 @@ module _ (b : Body) {A B : Type 0} where
       record {
         grows = c.grows;
         runs = λ inputs from steps syms a src cod wired cov ext rel p.
-          beside from steps syms a cod p (g inputs a src) (c.runs inputs from steps syms a src cod wired cov ext rel p);
+            beside from steps syms a cod p (g inputs a src) (c.runs inputs from steps syms a src cod wired cov ext rel p);
       }
     where
       beside : (from : R.Sources) (steps : List _) (syms : List Symbol) (a : A) (cod : R.State) → P a cod → (end : ExpressionEnd B) → GivesCode b from steps syms (length syms1) Q (length ops1) (length ops2) cod end → GivesCode b from steps syms (length syms1) (λ (both : A × B) x. P (both.0) x × Q (both.1) x) (length ops1) (length ops2) cod (then_value end (λ v s1. Gives (a, v) s1))
@@ -140,10 +140,10 @@ list_more b ops0 ops1 ops2 syms0 syms1 syms2 ps p sems sem stays c d =
       code = record {
         grows = grows_on ops0 ops1 ops2 syms0 syms1 syms2 c.code.grows d.code.grows;
         runs = λ inputs from steps syms a src cod wired cov ext rel nothing.
-          let ext1 = extends_on syms1 syms2 syms d.code.grows.syms ext in
-          let is = in_order_snoc (sems inputs) (sem inputs) src Gives ∙ in_order_then (sems inputs) src (λ vss s1. then_value (sem inputs s1) (λ vs s2. Gives (vss ++ vs ∷ []) s2)) in
-          subst (GivesCode b from steps syms (length syms0) (AllIn (ps ++ p ∷ [])) (length ops0) (length ops2) cod) (sym is) (
-          seq_code b from steps syms (AllIn ps) (AllIn (ps ++ p ∷ [])) (length syms0) (length syms1) (length ops0) (length ops1) (length ops2) cod (in_order (sems inputs) src Gives) (λ vss s1. then_value (sem inputs s1) (λ vs s2. Gives (vss ++ vs ∷ []) s2)) ls l1 (c.code.runs inputs from steps syms tt src cod wired (covers_before syms steps ops1 ops2 (length ops0) (length ops0) (omega arith) d.code.grows.ops cov) ext1 rel tt) (λ vss s y rel1 kept1 all.
+            let ext1 = extends_on syms1 syms2 syms d.code.grows.syms ext in
+            let is = in_order_snoc (sems inputs) (sem inputs) src Gives ∙ in_order_then (sems inputs) src (λ vss s1. then_value (sem inputs s1) (λ vs s2. Gives (vss ++ vs ∷ []) s2)) in
+            subst (GivesCode b from steps syms (length syms0) (AllIn (ps ++ p ∷ [])) (length ops0) (length ops2) cod) (sym is) (
+            seq_code b from steps syms (AllIn ps) (AllIn (ps ++ p ∷ [])) (length syms0) (length syms1) (length ops0) (length ops1) (length ops2) cod (in_order (sems inputs) src Gives) (λ vss s1. then_value (sem inputs s1) (λ vs s2. Gives (vss ++ vs ∷ []) s2)) ls l1 (c.code.runs inputs from steps syms tt src cod wired (covers_before syms steps ops1 ops2 (length ops0) (length ops0) (omega arith) d.code.grows.ops cov) ext1 rel tt) (λ vss s y rel1 kept1 all.
             snoc from steps syms y vss all (sem inputs s) (d.code.runs inputs from steps syms tt s y wired (covers_before syms steps ops2 ops2 (length ops0) (length ops1) l0 (extends_self ops2) cov) ext rel1 tt)));
       };
     }
@@ -184,6 +184,6 @@ code_then_into b ops0 ops1 ops2 syms0 syms1 syms2 P Q S f g ext12 c d =
     record {
       grows = record { ops = extends_on ops0 ops1 ops2 c.grows.ops d.grows.ops; syms = d.grows.syms };
       runs = λ inputs from steps syms a src cod wired cov ext rel p.
-        seq_code b from steps syms Q S (length syms0) (length syms0) (length ops0) (length ops1) (length ops2) cod (f inputs a src) (g inputs) (omega arith) l1 (c.runs inputs from steps syms a src cod wired (covers_before syms steps ops1 ops2 (length ops0) (length ops0) (omega arith) d.grows.ops cov) (extends_on syms1 syms2 syms ext12 ext) rel p) (λ v s y rel1 kept1 q.
+          seq_code b from steps syms Q S (length syms0) (length syms0) (length ops0) (length ops1) (length ops2) cod (f inputs a src) (g inputs) (omega arith) l1 (c.runs inputs from steps syms a src cod wired (covers_before syms steps ops1 ops2 (length ops0) (length ops0) (omega arith) d.grows.ops cov) (extends_on syms1 syms2 syms ext12 ext) rel p) (λ v s y rel1 kept1 q.
           d.runs inputs from steps syms v s y wired (covers_before syms steps ops2 ops2 (length ops0) (length ops1) l0 (extends_self ops2) cov) ext rel1 q);
     }

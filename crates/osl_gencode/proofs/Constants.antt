@@ -47,7 +47,7 @@ module _ (b : Body) where
     code = record {
       grows = record { ops = extends_self ops0; syms = ext };
       runs = λ inputs from steps syms a src cod wired cov ext1 rel p.
-        (cod, record { leads = leads_self from steps (length ops0) cod; related = rel; kept = kept_self b (length syms0) cod }, in_one c ty v cod (constant_holds b syms c ty v src cod (constant_later syms1 syms c ty v ext1 k) rel) k.typed);
+          (cod, record { leads = leads_self from steps (length ops0) cod; related = rel; kept = kept_self b (length syms0) cod }, in_one c ty v cod (constant_holds b syms c ty v src cod (constant_later syms1 syms c ty v ext1 k) rel) k.typed);
     };
   }
 
@@ -66,12 +66,14 @@ module _ (b : Body) where
     code = record {
       grows = record { ops = extends_push ops0 exit_op; syms = extends_self syms0 };
       runs = λ inputs from steps syms a src cod wired cov ext rel p.
-        let at = at_push syms steps ops0 exit_op (length ops0) (omega arith) cov ∙ ap Some (exit_step syms (length ops0)) in
-        let y = R.ticked cod in
-        (y, record {
-          finishes = subst (λ z. Finishes from steps (length ops0) z cod (R.Jumps Exit y)) (sym (push_length ops0 exit_op)) (one_ends from steps (length ops0) cod (R.Jumps Exit y) (Leave Exit) at (λ g e. refl));
-          related = record { vars = rel.vars; typed = rel.typed; globals = rel.globals; global_types = rel.global_types; turns = rel.turns; reads = rel.reads; consts = rel.consts };
-          kept = kept_older b (length syms0) cod y (λ k h. refl);
-        });
+          let at = at_push syms steps ops0 exit_op (length ops0) (omega arith) cov ∙ ap Some (exit_step syms (length ops0)) in
+          let y = R.ticked cod in (
+            y,
+            record {
+              finishes = subst (λ z. Finishes from steps (length ops0) z cod (R.Jumps Exit y)) (sym (push_length ops0 exit_op)) (one_ends from steps (length ops0) cod (R.Jumps Exit y) (Leave Exit) at (λ g e. refl));
+              related = record { vars = rel.vars; typed = rel.typed; globals = rel.globals; global_types = rel.global_types; turns = rel.turns; reads = rel.reads; consts = rel.consts };
+              kept = kept_older b (length syms0) cod y (λ k h. refl);
+            },
+          );
     };
   }

@@ -74,8 +74,8 @@ module _ (b inner : Body) (at : ℕ) where
       record {
         grows = c.grows;
         runs = λ inputs from steps syms passed finals s old wired cov ext rel indices held types.
-          let v = one_final finals types in
-          back inputs from steps syms passed finals s old wired cov ext rel indices held (v.0) (v.1) (v.2);
+            let v = one_final finals types in
+            back inputs from steps syms passed finals s old wired cov ext rel indices held (v.0) (v.1) (v.2);
       }
     where
       one_final : (finals : List (List AnyValue)) → map (map type_of) finals ≡ (vty ∷ []) ∷ [] → (v : AnyValue) × (finals ≡ (v ∷ []) ∷ []) × (type_of v ≡ vty)
@@ -105,10 +105,10 @@ module _ (b inner : Body) (at : ℕ) where
           let fits : type_of x ≡ ty = stored_type ty (t.leaf s) (all_indices part js) v sound (t.typed syms s old rel) (λ none. typed ∙ same (empty_map old.values p.indices (values ∙ none))) in
           let rel1 = t.related syms (length syms0) x s old y ext0 rw fits st rel in
           let means : copied_back (frame_at b inputs) (Lent u r q js ∷ []) finals s ≡ t.put x s
-              = ap (λ z. copied_back (frame_at b inputs) (Lent u r q js ∷ []) z s) is
-              ∙ ap (λ z. write_part (frame_at b inputs) z q js (v ∷ []) s) (sym (same_target.0))
-              ∙ ap (λ z. write_part (frame_at b inputs) rt z js (v ∷ []) s) (sym (same_target.1))
-              ∙ t.writes inputs js (v ∷ []) s in
+          = ap (λ z. copied_back (frame_at b inputs) (Lent u r q js ∷ []) z s) is
+          ∙ ap (λ z. write_part (frame_at b inputs) z q js (v ∷ []) s) (sym (same_target.0))
+          ∙ ap (λ z. write_part (frame_at b inputs) rt z js (v ∷ []) s) (sym (same_target.1))
+          ∙ t.writes inputs js (v ∷ []) s in
           (y, did.1, subst (λ z. Related b syms z y) (sym means) rel1, kept_target b syms0 rt part ty w t loud syms (length syms0) x old y st)
 
 -- ---- several
@@ -181,9 +181,10 @@ finals_right inner at (f ∷ one) two x all =
 kept_finals : (b inner : Body) (n at : ℕ) (finals : List (List AnyValue)) (x y : R.State) → frame_end b ≤ inner.shift → inner.shift + at + leaves_in (map (map type_of) finals) ≤ n → Kept b n x y → FinalsIn inner at finals x → FinalsIn inner at finals y
 kept_finals b inner n at [] x y order le kept all = tt
 kept_finals b inner n at (f ∷ finals) x y order le kept all =
-    let l = length-map f type_of in
-    (record { each = λ k v here. let lt = get_some f k v here in kept.keeps (inner.shift + at + k) (omega (arith, lt, l, le)) (inr (omega (arith, order))) ∙ all.0.each k v here },
-    kept_finals b inner n (at + length f) finals x y order (omega (arith, l, le)) kept all.1)
+    let l = length-map f type_of in (
+      record { each = λ k v here. let lt = get_some f k v here in kept.keeps (inner.shift + at + k) (omega (arith, lt, l, le)) (inr (omega (arith, order))) ∙ all.0.each k v here },
+      kept_finals b inner n (at + length f) finals x y order (omega (arith, l, le)) kept all.1,
+    )
 
 back_append : (frame : Frame) (one two : List Passed) (f g : List (List AnyValue)) (s : State) → length one ≡ length f → copied_back frame (one ++ two) (f ++ g) s ≡ copied_back frame two g (copied_back frame one f s)
 back_append frame [] two [] g s e = refl
@@ -205,20 +206,20 @@ back_then b inner at types more ops0 ops1 ops2 syms0 syms1 syms2 ps qs count ord
     record {
       grows = grows_on ops0 ops1 ops2 syms0 syms1 syms2 c.grows d.grows;
       runs = λ inputs from steps syms passed finals s old wired cov ext rel indices held typed.
-        let frame = frame_at b inputs in
-        let p = split_passed ps qs passed old indices in
-        let f = split_finals types more finals typed in
-        let heldS = subst (λ z. FinalsIn inner at z old) f.2 held in
-        let ext1 = extends_on syms1 syms2 syms d.grows.syms ext in
-        let did = c.runs inputs from steps syms p.0 f.0 s old wired (covers_before syms steps ops1 ops2 (length ops0) (length ops0) (omega arith) d.grows.ops cov) ext1 rel p.3 (finals_left inner at f.0 f.1 old heldS) f.3 in
-        let y = did.0 in
-        let right = subst (λ z. FinalsIn inner (at + leaves_in z) f.1 old) f.3 (finals_right inner at f.0 f.1 old heldS) in
-        let e2 : leaves_in (map (map type_of) f.1) ≡ leaves_in more = ap leaves_in f.4 in
-        let rightY = kept_finals b inner (length syms0) (at + leaves_in types) f.1 old y order (omega (arith, e2, le)) did.3 right in
-        let did2 = d.runs inputs from steps syms p.1 f.1 (copied_back frame p.0 f.0 s) y wired (covers_before syms steps ops2 ops2 (length ops0) (length ops1) l0 (extends_self ops2) cov) ext did.2 (safe_indices b (length syms0) qs p.1 old y did.3 safe p.4) rightY f.4 in
-        let z = did2.0 in
-        let n1 = places_passed ps p.0 old p.3 in
-        let n2 : length f.0 ≡ length types = sym (length-map f.0 (map type_of)) ∙ ap length f.3 in
-        let means : copied_back frame passed finals s ≡ copied_back frame p.1 f.1 (copied_back frame p.0 f.0 s) = ap (λ l. copied_back frame l finals s) p.2 ∙ ap (λ l. copied_back frame (p.0 ++ p.1) l s) f.2 ∙ back_append frame p.0 p.1 f.0 f.1 s (omega (arith, n1, n2, count)) in
-        (z, leads_on from steps (length ops0) (length ops1) (length ops2) old y z l1 did.1 did2.1, subst (λ q. Related b syms q z) (sym means) did2.2, kept_on b (length syms0) (length syms1) old y z ls did.3 did2.3);
+          let frame = frame_at b inputs in
+          let p = split_passed ps qs passed old indices in
+          let f = split_finals types more finals typed in
+          let heldS = subst (λ z. FinalsIn inner at z old) f.2 held in
+          let ext1 = extends_on syms1 syms2 syms d.grows.syms ext in
+          let did = c.runs inputs from steps syms p.0 f.0 s old wired (covers_before syms steps ops1 ops2 (length ops0) (length ops0) (omega arith) d.grows.ops cov) ext1 rel p.3 (finals_left inner at f.0 f.1 old heldS) f.3 in
+          let y = did.0 in
+          let right = subst (λ z. FinalsIn inner (at + leaves_in z) f.1 old) f.3 (finals_right inner at f.0 f.1 old heldS) in
+          let e2 : leaves_in (map (map type_of) f.1) ≡ leaves_in more = ap leaves_in f.4 in
+          let rightY = kept_finals b inner (length syms0) (at + leaves_in types) f.1 old y order (omega (arith, e2, le)) did.3 right in
+          let did2 = d.runs inputs from steps syms p.1 f.1 (copied_back frame p.0 f.0 s) y wired (covers_before syms steps ops2 ops2 (length ops0) (length ops1) l0 (extends_self ops2) cov) ext did.2 (safe_indices b (length syms0) qs p.1 old y did.3 safe p.4) rightY f.4 in
+          let z = did2.0 in
+          let n1 = places_passed ps p.0 old p.3 in
+          let n2 : length f.0 ≡ length types = sym (length-map f.0 (map type_of)) ∙ ap length f.3 in
+          let means : copied_back frame passed finals s ≡ copied_back frame p.1 f.1 (copied_back frame p.0 f.0 s) = ap (λ l. copied_back frame l finals s) p.2 ∙ ap (λ l. copied_back frame (p.0 ++ p.1) l s) f.2 ∙ back_append frame p.0 p.1 f.0 f.1 s (omega (arith, n1, n2, count)) in
+          (z, leads_on from steps (length ops0) (length ops1) (length ops2) old y z l1 did.1 did2.1, subst (λ q. Related b syms q z) (sym means) did2.2, kept_on b (length syms0) (length syms1) old y z ls did.3 did2.3);
     }

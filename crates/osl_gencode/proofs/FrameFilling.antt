@@ -64,17 +64,19 @@ module _ (b inner : Body) (result : List Ty) (syms0 syms1 : List Symbol) (ps : L
   entered : (syms : List Symbol) (passed : List Passed) (old new : R.State) → length syms0 ≤ inner.shift → Extends syms1 syms → HoldsConsts syms old → AllPassed ps passed old → Moved inner.shift rs old new → Entered inner result (length syms0) (map value_passed passed) syms old new
   entered syms passed old new later ext consts all m = record {
     frame = λ k lt. let there = get_there rs k (omega (arith, lt, count)) in
-      m.inside k (there.0) (there.1) ∙ shown syms passed old ext consts all k (there.0) (there.1) ∙ leaves_same 0 args (zero_leaves (inner.types ++ result)) (zero_leaves inner.types) k (zeros_left inner.types result k lt);
+        m.inside k (there.0) (there.1) ∙ shown syms passed old ext consts all k (there.0) (there.1) ∙ leaves_same 0 args (zero_leaves (inner.types ++ result)) (zero_leaves inner.types) k (zeros_left inner.types result k lt);
     typed = λ k ty at. let lt = get_some inner.types k ty at in
-      sym (ap type_of (leaves_same 0 args (zero_leaves (inner.types ++ result)) (zero_leaves inner.types) k (zeros_left inner.types result k lt))) ∙ typed passed old all k ty (get_left inner.types result k lt ∙ at);
-    zeros = record { each = λ k v at.
-      let q = get_mapped zero_value result k v at in
-      let lt = get_some result k (q.0) (q.1) in
-      let j = length inner.types + k in
-      let there = get_there rs j (omega (arith, lt, count)) in
-      let e : frame_end inner + k ≡ inner.shift + j = omega arith in
-      let s = short passed old all in
-      ap new.values e ∙ m.inside j (there.0) (there.1) ∙ shown syms passed old ext consts all j (there.0) (there.1) ∙ other_leaf 0 args (zero_leaves (inner.types ++ result)) j (inr (omega (arith, s))) ∙ zero_right inner.types result j k (q.0) refl (q.1) ∙ q.2 };
+        sym (ap type_of (leaves_same 0 args (zero_leaves (inner.types ++ result)) (zero_leaves inner.types) k (zeros_left inner.types result k lt))) ∙ typed passed old all k ty (get_left inner.types result k lt ∙ at);
+    zeros = record {
+      each = λ k v at.
+          let q = get_mapped zero_value result k v at in
+          let lt = get_some result k (q.0) (q.1) in
+          let j = length inner.types + k in
+          let there = get_there rs j (omega (arith, lt, count)) in
+          let e : frame_end inner + k ≡ inner.shift + j = omega arith in
+          let s = short passed old all in
+          ap new.values e ∙ m.inside j (there.0) (there.1) ∙ shown syms passed old ext consts all j (there.0) (there.1) ∙ other_leaf 0 args (zero_leaves (inner.types ++ result)) j (inr (omega (arith, s))) ∙ zero_right inner.types result j k (q.0) refl (q.1) ∙ q.2;
+    };
     low = λ k lt. m.outside k (inl (omega (arith, lt, later)));
     consts = λ k symbol here is. m.outside k (apart k symbol here is) ∙ consts k symbol here is;
     turns = m.turns;
@@ -103,11 +105,11 @@ module _ (b inner : Body) (result : List Ty) (syms0 syms1 : List Symbol) (ps : L
     within = within;
     places = places;
     runs = λ from steps syms passed old cov exts above consts all.
-      let can : CanMove from syms inner.shift rs old = record {
-        typed = λ k r at. let there = get_there (inner.types ++ result) k (let l = get_some rs k r at in omega (arith, l, block_length)) in subst (IsVariable syms (inner.shift + k)) (sym (typed passed old all k (there.0) (there.1)) ∙ sym (ap type_of (shown syms passed old exts consts all k r at))) (vars syms exts k (there.0) (there.1));
-        own = λ k r at. above r ((low k r at).0);
-        apart = λ k r at. inl ((low k r at).1);
-      } in
-      let did = c.runs from steps syms old cov can in
-      (did.0, did.1, entered syms passed old did.0 (let o = own.start in omega (arith, later, o)) exts consts all did.2);
+        let can : CanMove from syms inner.shift rs old = record {
+          typed = λ k r at. let there = get_there (inner.types ++ result) k (let l = get_some rs k r at in omega (arith, l, block_length)) in subst (IsVariable syms (inner.shift + k)) (sym (typed passed old all k (there.0) (there.1)) ∙ sym (ap type_of (shown syms passed old exts consts all k r at))) (vars syms exts k (there.0) (there.1));
+          own = λ k r at. above r ((low k r at).0);
+          apart = λ k r at. inl ((low k r at).1);
+        } in
+        let did = c.runs from steps syms old cov can in
+        (did.0, did.1, entered syms passed old did.0 (let o = own.start in omega (arith, later, o)) exts consts all did.2);
   }

@@ -50,14 +50,14 @@ if_code b types ops0 opsC opsA opsB syms0 symsC symsA symsB c test x cond first 
     record {
       grows = record { ops = extends_on ops0 opsC opsE cc.grows.ops toE; syms = extends_on syms0 symsC symsB cc.grows.syms (extends_on symsC symsA symsB ca.grows.syms cb.grows.syms) };
       runs = λ inputs from steps syms src cod wired cov ext rel.
-        let extA = extends_on symsA symsB syms cb.grows.syms ext in
-        let extC = extends_on symsC symsA syms ca.grows.syms extA in
-        let roomS = room_later b syms0 syms (extends_on syms0 symsC syms cc.grows.syms extC) room in
-        let at = at_set syms steps opsB i (length ops0) jump l0 (omega (arith, lX, lA, lB)) cov ∙ ap Some (if_step syms i c (length opsA) (length opsB)) in
-        let covB = covers_after syms steps opsB i (length ops0) (i + 1) jump (omega (arith, l0)) (omega arith) cov in
-        let ran = cc.runs inputs from steps syms tt src cod wired (covers_before syms steps opsC opsE (length ops0) (length ops0) (omega arith) toE cov) extC rel tt in
-        subst (λ z. DoesCode b from steps syms (length syms0) types (length ops0) z cod (with_value (cond inputs src) (λ v s1. if test v then first inputs s1 else other inputs s1))) (sym lE) (
-        value_code b from steps syms (λ v z. R.is_so (z.values c) ≡ test v) types (length syms0) (length symsC) (length ops0) i (length opsB) cod (cond inputs src) (λ v s1. if test v then first inputs s1 else other inputs s1) kC (omega (arith, lX, lA, lB)) ran (λ v s y rel1 kept1 truth.
+          let extA = extends_on symsA symsB syms cb.grows.syms ext in
+          let extC = extends_on symsC symsA syms ca.grows.syms extA in
+          let roomS = room_later b syms0 syms (extends_on syms0 symsC syms cc.grows.syms extC) room in
+          let at = at_set syms steps opsB i (length ops0) jump l0 (omega (arith, lX, lA, lB)) cov ∙ ap Some (if_step syms i c (length opsA) (length opsB)) in
+          let covB = covers_after syms steps opsB i (length ops0) (i + 1) jump (omega (arith, l0)) (omega arith) cov in
+          let ran = cc.runs inputs from steps syms tt src cod wired (covers_before syms steps opsC opsE (length ops0) (length ops0) (omega arith) toE cov) extC rel tt in
+          subst (λ z. DoesCode b from steps syms (length syms0) types (length ops0) z cod (with_value (cond inputs src) (λ v s1. if test v then first inputs s1 else other inputs s1))) (sym lE) (
+          value_code b from steps syms (λ v z. R.is_so (z.values c) ≡ test v) types (length syms0) (length symsC) (length ops0) i (length opsB) cod (cond inputs src) (λ v s1. if test v then first inputs s1 else other inputs s1) kC (omega (arith, lX, lA, lB)) ran (λ v s y rel1 kept1 truth.
           let tick = related_ticked b syms roomS s y rel1 in
           let p = subst (λ z. DoesCode b from steps syms (length symsC) types z (length opsA) (R.ticked y) (first inputs s)) lX (ca.runs inputs from steps syms s (R.ticked y) wired (covers_before syms steps opsA opsB (i + 1) (length opsX) (omega (arith, lX)) cb.grows.ops covB) extA tick) in
           let q = cb.runs inputs from steps syms s (R.ticked y) wired (covers_before syms steps opsB opsB (i + 1) (length opsA) (omega (arith, lX, lA)) (extends_self opsB) covB) ext tick in

@@ -123,21 +123,29 @@ module _ (from : R.Sources) (steps : List Step) (i m : ℕ) (le : i < m) (at : s
         (s, y, subst (λ z. CameBack b from steps syms types fn.formals i m old (map zero_value z) (finals_from b.structures 0 fn.formals s.vars) s.turns s.reads s y) is (fell fn.formals s y (R.Jumps Break y) refl (λ q l. whole_end from steps (i + 1) m q (R.ticked old) (R.Jumps Break y) l g.finishes) g.related g.kept))
     inlined fn (Continues s) is (y, g) =
         (s, y, subst (λ z. CameBack b from steps syms types fn.formals i m old (map zero_value z) (finals_from b.structures 0 fn.formals s.vars) s.turns s.reads s y) is (fell fn.formals s y (R.Jumps Continue y) refl (λ q l. whole_end from steps (i + 1) m q (R.ticked old) (R.Jumps Continue y) l g.finishes) g.related g.kept))
-    inlined fn (Returns vs s) is (y, g) = (s, y, record {
-      leads = call_leads old y (R.Jumps Return y) refl (λ q l. whole_end from steps (i + 1) m q (R.ticked old) (R.Jumps Return y) l g.finishes);
-      related = g.related;
-      low = λ k lt. g.kept k (omega (arith, lt, order, room)) (inl lt);
-      holds = g.value;
-      typed = g.typed;
-      ends = refl;
-      left = refl;
-      seen = refl;
-    })
-    inlined fn (Exits s) is (y, g) = (s, y, record {
-      finishes = call_finishes old (R.Jumps Exit y) (λ go. refl) (λ q l. whole_end from steps (i + 1) m q (R.ticked old) (R.Jumps Exit y) l g.finishes);
-      related = g.related;
-      low = low_kept y g.kept;
-      left = refl;
-      seen = refl;
-    })
+    inlined fn (Returns vs s) is (y, g) = (
+      s,
+      y,
+      record {
+        leads = call_leads old y (R.Jumps Return y) refl (λ q l. whole_end from steps (i + 1) m q (R.ticked old) (R.Jumps Return y) l g.finishes);
+        related = g.related;
+        low = λ k lt. g.kept k (omega (arith, lt, order, room)) (inl lt);
+        holds = g.value;
+        typed = g.typed;
+        ends = refl;
+        left = refl;
+        seen = refl;
+      },
+    )
+    inlined fn (Exits s) is (y, g) = (
+      s,
+      y,
+      record {
+        finishes = call_finishes old (R.Jumps Exit y) (λ go. refl) (λ q l. whole_end from steps (i + 1) m q (R.ticked old) (R.Jumps Exit y) l g.finishes);
+        related = g.related;
+        low = low_kept y g.kept;
+        left = refl;
+        seen = refl;
+      },
+    )
     inlined fn (Spent s) is (y, g) = (y, record { finishes = call_finishes old (R.Spent y) (λ go. refl) (λ q l. whole_end from steps (i + 1) m q (R.ticked old) (R.Spent y) l g.finishes); seen = g.reads })

@@ -53,42 +53,51 @@ module _ (b : Body) (from : R.Sources) (steps : List Step) (syms : List Symbol) 
       subst (λ q. Related b syms src q × Kept b s0 x q × HasRead syms w name ty to hs x (v ∷ []) q) (sym is) (
         related_temp b syms room w (u ∷ []) src x1 z above (one_apart b syms room w to var) wr rel,
         kept_older b s0 x z (λ k h. other k (λ e. absurd (omega (arith, h, e, le)))),
-        record { value = held; others = other; typed = tv })
+        record { value = held; others = other; typed = tv },
+      )
 
   own_gives : (s0 i w k q : ℕ) (name : OpName) (ty to : Ty) (hs : List ℕ) (src : State) (x : R.State) → s0 ≤ w → frame_end b ≤ w → IsVariable syms w to → slice_get b.types q ≡ Some ty → from (symbol_of b q) ≡ R.Own → slice_get steps i ≡ Some (Compute name to w (symbol_of b q ∷ hs)) → AllOwn from hs → Related b syms src x → GivesCode b from steps syms s0 (HasRead syms w name ty to hs x) i (i + 1) x (Gives (src.vars q ∷ []) src)
   own_gives s0 i w k q name ty to hs src x le above var here is at owns rel =
       let lt = get_some b.types q ty here in
       let v_is = rel.vars q lt in
       let y = R.write w (apply name to (map x.values (symbol_of b q ∷ hs))) (R.ticked x) in
-      let done = wrote s0 i w name ty to hs (src.vars q) src x x y (ap (λ z. R.write w (apply name to (z ∷ map x.values hs)) (R.ticked x)) v_is) (λ k. refl) le above var (rel.typed q ty here) rel in
-      (y, record {
-        leads = compute_leads from steps i w name to (symbol_of b q ∷ hs) x at (is, owns);
-        related = done.0;
-        kept = done.1;
-      }, done.2)
+      let done = wrote s0 i w name ty to hs (src.vars q) src x x y (ap (λ z. R.write w (apply name to (z ∷ map x.values hs)) (R.ticked x)) v_is) (λ k. refl) le above var (rel.typed q ty here) rel in (
+        y,
+        record {
+          leads = compute_leads from steps i w name to (symbol_of b q ∷ hs) x at (is, owns);
+          related = done.0;
+          kept = done.1;
+        },
+        done.2,
+      )
 
   -- the symbol of leaf q is read by an op, and by its source
   pub read_gives : (s0 i w k q : ℕ) (name : OpName) (ty to : Ty) (hs : List ℕ) (input : Input) (src : State) (x : R.State) → s0 ≤ w → frame_end b ≤ w → IsVariable syms w to → slice_get b.types q ≡ Some ty → from (symbol_of b q) ≡ source_of input → ((o : Option AnyValue) → input ≡ From o → symbol_of b q ≡ k) → ((v : AnyValue) → input ≡ From (Some v) → type_of v ≡ ty) → slice_get steps i ≡ Some (Compute name to w (symbol_of b q ∷ hs)) → AllOwn from hs → Related b syms src x → GivesCode b from steps syms s0 (HasRead syms w name ty to hs x) i (i + 1) x (read_input input k (src.vars q ∷ []) src)
   read_gives s0 i w k q name ty to hs (From None) src x le above var here is first typed at owns rel =
       let y = R.note k (R.ticked x) in
-      let e = first None refl in
-      (y, record {
-        finishes = one_ends from steps i x (R.Spent y) (Compute name to w (symbol_of b q ∷ hs)) at (λ g z. ap (λ o. R.with_value (R.read_from o (symbol_of b q) (R.ticked x)) (λ v s1. R.arguments from hs s1 (λ vs s2. R.run from steps g (i + 1) z (R.write w (apply name to (v ∷ vs)) s2)))) is ∙ ap (λ n. R.Spent (R.note n (R.ticked x))) e);
-        reads = ap (R.put k true) rel.reads ∙ same_notes k src.reads;
-      })
+      let e = first None refl in (
+        y,
+        record {
+          finishes = one_ends from steps i x (R.Spent y) (Compute name to w (symbol_of b q ∷ hs)) at (λ g z. ap (λ o. R.with_value (R.read_from o (symbol_of b q) (R.ticked x)) (λ v s1. R.arguments from hs s1 (λ vs s2. R.run from steps g (i + 1) z (R.write w (apply name to (v ∷ vs)) s2)))) is ∙ ap (λ n. R.Spent (R.note n (R.ticked x))) e);
+          reads = ap (R.put k true) rel.reads ∙ same_notes k src.reads;
+        },
+      )
   read_gives s0 i w k q name ty to hs (From (Some v)) src x le above var here is first typed at owns rel =
       let e = first (Some v) refl in
       let x1 = R.note k x in
       let y = R.write w (apply name to (v ∷ map x.values hs)) (R.ticked x1) in
       let tv = typed v refl in
-      let done = wrote s0 i w name ty to hs v (noted k src) x1 x y refl (λ j. refl) le above var tv (related_noted k src x rel) in
-      (y, record {
-        leads = one_leads from steps i x y (Compute name to w (symbol_of b q ∷ hs)) at (λ g z.
-          ap (λ o. R.with_value (R.read_from o (symbol_of b q) (R.ticked x)) (λ u s1. R.arguments from hs s1 (λ vs s2. R.run from steps g (i + 1) z (R.write w (apply name to (u ∷ vs)) s2)))) is
-          ∙ ap (λ n. R.arguments from hs (R.note n (R.ticked x)) (λ vs s2. R.run from steps g (i + 1) z (R.write w (apply name to (v ∷ vs)) s2))) e
-          ∙ args_own from steps hs (R.note k (R.ticked x)) (λ vs s2. R.run from steps g (i + 1) z (R.write w (apply name to (v ∷ vs)) s2)) owns);
-        related = done.0;
-        kept = done.1;
-      }, done.2)
+      let done = wrote s0 i w name ty to hs v (noted k src) x1 x y refl (λ j. refl) le above var tv (related_noted k src x rel) in (
+        y,
+        record {
+          leads = one_leads from steps i x y (Compute name to w (symbol_of b q ∷ hs)) at (λ g z.
+              ap (λ o. R.with_value (R.read_from o (symbol_of b q) (R.ticked x)) (λ u s1. R.arguments from hs s1 (λ vs s2. R.run from steps g (i + 1) z (R.write w (apply name to (u ∷ vs)) s2)))) is
+              ∙ ap (λ n. R.arguments from hs (R.note n (R.ticked x)) (λ vs s2. R.run from steps g (i + 1) z (R.write w (apply name to (v ∷ vs)) s2))) e
+              ∙ args_own from steps hs (R.note k (R.ticked x)) (λ vs s2. R.run from steps g (i + 1) z (R.write w (apply name to (v ∷ vs)) s2)) owns);
+          related = done.0;
+          kept = done.1;
+        },
+        done.2,
+      )
   read_gives s0 i w k q name ty to hs (Fixed v) src x le above var here is first typed at owns rel = own_gives s0 i w k q name ty to hs src x le above var here is at owns rel
   read_gives s0 i w k q name ty to hs Default src x le above var here is first typed at owns rel = own_gives s0 i w k q name ty to hs src x le above var here is at owns rel

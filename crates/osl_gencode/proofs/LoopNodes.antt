@@ -95,18 +95,18 @@ module _ (b : Body) (types : List Ty) where
       record {
         grows = record { ops = extends_set ops0 opsS i op toS (omega arith); syms = extends_on syms0 symsC symsS cc.grows.syms (extends_on symsC symsB symsS cb.grows.syms cs.grows.syms) };
         runs = λ inputs from steps syms src cod wired cov ext rel.
-          let at = at_set syms steps opsS i i op (omega arith) (omega (arith, lX, lC, lB, lS)) cov ∙ ap Some (decodes syms) in
-          let covS = covers_after syms steps opsS i i (i + 1) op (omega arith) (omega arith) cov in
-          let covB = covers_before syms steps opsB opsS (i + 1) (i + 1) (omega arith) cs.grows.ops covS in
-          let extB = extends_on symsB symsS syms cs.grows.syms ext in
-          let extC = extends_on symsC symsB syms cb.grows.syms extB in
-          let done = loop_does b from steps syms types (length syms0) i (length opsS) true c (span (i + 1) (length opsC)) (span (length opsC) (length opsB)) (span (length opsB) (length opsS)) src cod (test inputs) (body inputs) (step inputs) (omega arith) (omega (arith, lB, lS)) (omega (arith, lX, lC)) lS (omega (arith, lX, lC, lB)) refl (omega (arith, lX, lC, lB, lS)) (cc.own inputs from wired) at (cc.over inputs) (λ st y r.
+            let at = at_set syms steps opsS i i op (omega arith) (omega (arith, lX, lC, lB, lS)) cov ∙ ap Some (decodes syms) in
+            let covS = covers_after syms steps opsS i i (i + 1) op (omega arith) (omega arith) cov in
+            let covB = covers_before syms steps opsB opsS (i + 1) (i + 1) (omega arith) cs.grows.ops covS in
+            let extB = extends_on symsB symsS syms cs.grows.syms ext in
+            let extC = extends_on symsC symsB syms cb.grows.syms extB in
+            let done = loop_does b from steps syms types (length syms0) i (length opsS) true c (span (i + 1) (length opsC)) (span (length opsC) (length opsB)) (span (length opsB) (length opsS)) src cod (test inputs) (body inputs) (step inputs) (omega arith) (omega (arith, lB, lS)) (omega (arith, lX, lC)) lS (omega (arith, lX, lC, lB)) refl (omega (arith, lX, lC, lB, lS)) (cc.own inputs from wired) at (cc.over inputs) (λ st y r.
             subst (λ z. TestsCode b from steps syms types (length syms0) c z (length opsC) y (test inputs st)) lX (cc.runs inputs from steps syms st y wired (covers_before syms steps opsC opsB (i + 1) (length opsX) (omega (arith, lX)) cb.grows.ops covB) extC r)) (λ st y r.
             let d = cb.runs inputs from steps syms st y wired (covers_before syms steps opsB opsB (i + 1) (length opsC) (omega (arith, lX, lC)) (extends_self opsB) covB) extB r in
             does_after b from steps syms types (length syms0) (length symsC) (length opsC) (length opsC) (length opsB) y y (body inputs st) kC lB (leads_self from steps (length opsC) y) (kept_self b (length syms0) y) d) (λ st y r.
             let d = cs.runs inputs from steps syms st y wired (covers_before syms steps opsS opsS (i + 1) (length opsB) (omega (arith, lX, lC, lB)) (extends_self opsS) covS) ext r in
             does_after b from steps syms types (length syms0) (length symsB) (length opsB) (length opsB) (length opsS) y y (step inputs st) (omega (arith, kC, kB)) lS (leads_self from steps (length opsB) y) (kept_self b (length syms0) y) d) rel in
-          subst (λ z. DoesCode b from steps syms (length syms0) types i z cod (looped true (test inputs) (body inputs) (step inputs) src)) (sym lE) done;
+            subst (λ z. DoesCode b from steps syms (length syms0) types i z cod (looped true (test inputs) (body inputs) (step inputs) src)) (sym lE) done;
       }
 
   pub while_code : (ops0 opsC opsB : List Op) (syms0 symsC symsB : List Symbol) (c : ℕ) (x : Op) (test : Inputs → State → Tested) (body : Inputs → Doing) → TestCode b types (ops0 ++ x ∷ []) opsC syms0 symsC c test → StmtCode b types opsC opsB symsC symsB body → StmtCode b types ops0 (slice_set opsB (length ops0) (while_op c (length opsC) (length opsB))) syms0 symsB (λ inputs. looped true (test inputs) (body inputs) Next)
@@ -131,12 +131,12 @@ module _ (b : Body) (types : List Ty) where
       record {
         grows = record { ops = extends_set ops0 opsC i op toC (omega arith); syms = extends_on syms0 symsB symsC cb.grows.syms cc.grows.syms };
         runs = λ inputs from steps syms src cod wired cov ext rel.
-          let at = at_set syms steps opsC i i op (omega arith) (omega (arith, lX, lC, lB)) cov ∙ ap Some (do_step syms i c (length opsB) (length opsC)) in
-          let covC = covers_after syms steps opsC i i (i + 1) op (omega arith) (omega arith) cov in
-          let extB = extends_on symsB symsC syms cc.grows.syms ext in
-          let done = loop_does b from steps syms types (length syms0) i (length opsC) false c (span (length opsB) (length opsC)) (span (i + 1) (length opsB)) (span (length opsC) (length opsC)) src cod (test inputs) (body inputs) Next (omega (arith, lX, lB)) (omega arith) (omega arith) lC (omega (arith, lX, lB, lC)) refl (omega (arith, lX, lC, lB)) (cc.own inputs from wired) at (cc.over inputs) (λ st y r.
+            let at = at_set syms steps opsC i i op (omega arith) (omega (arith, lX, lC, lB)) cov ∙ ap Some (do_step syms i c (length opsB) (length opsC)) in
+            let covC = covers_after syms steps opsC i i (i + 1) op (omega arith) (omega arith) cov in
+            let extB = extends_on symsB symsC syms cc.grows.syms ext in
+            let done = loop_does b from steps syms types (length syms0) i (length opsC) false c (span (length opsB) (length opsC)) (span (i + 1) (length opsB)) (span (length opsC) (length opsC)) src cod (test inputs) (body inputs) Next (omega (arith, lX, lB)) (omega arith) (omega arith) lC (omega (arith, lX, lB, lC)) refl (omega (arith, lX, lC, lB)) (cc.own inputs from wired) at (cc.over inputs) (λ st y r.
             let t = cc.runs inputs from steps syms st y wired (covers_before syms steps opsC opsC (i + 1) (length opsB) (omega (arith, lX, lB)) (extends_self opsC) covC) ext r in
             tests_less b from steps syms types (length syms0) (length symsB) c (length opsB) (length opsC) y (test inputs st) kB lC t) (λ st y r.
             subst (λ z. DoesCode b from steps syms (length syms0) types z (length opsB) y (body inputs st)) lX (cb.runs inputs from steps syms st y wired (covers_before syms steps opsB opsC (i + 1) (length opsX) (omega (arith, lX)) cc.grows.ops covC) extB r)) (λ st y r. (y, record { leads = leads_self from steps (length opsC) y; related = r; kept = kept_self b (length syms0) y })) rel in
-          subst (λ z. DoesCode b from steps syms (length syms0) types i z cod (looped false (test inputs) (body inputs) Next src)) (sym lE) done;
+            subst (λ z. DoesCode b from steps syms (length syms0) types i z cod (looped false (test inputs) (body inputs) Next src)) (sym lE) done;
       }

@@ -128,11 +128,14 @@ module _ (b : Body) (from : R.Sources) (steps : List Step) (syms : List Symbol) 
       ends out over is = record { by = λ f x le en. let p = to_loop f x le en in let l = p.1 in p.2 ∙ ap (λ z. R.then_do z (R.run from steps p.0 e x)) (is p.0 (omega (arith, l, le))) ∙ over (R.run from steps p.0 e x) }
 
       done : (o : StatementEnd) → Same (I s0 cod) (J s0 cod) (λ g. e ≤ g + (i + 1)) o (λ g. R.looped first (λ x. R.test_after from c (R.run_span (R.run from steps g) test x)) (R.run_span (R.run from steps g) body) (R.run_span (R.run from steps g) stepping) (R.ticked cod)) → DoesCode b from steps syms s0 types i e cod o
-      done (Next s) (y, is, k) = (y, record {
-        leads = record { by = λ f x le en. let p = to_loop f x le en in let l = p.1 in (p.0, omega (arith, l, lt), p.2 ∙ ap (λ z. R.then_do z (R.run from steps p.0 e x)) (is p.0 (omega (arith, l, le)))) };
-        related = k.related;
-        kept = k.kept;
-      })
+      done (Next s) (y, is, k) = (
+        y,
+        record {
+          leads = record { by = λ f x le en. let p = to_loop f x le en in let l = p.1 in (p.0, omega (arith, l, lt), p.2 ∙ ap (λ z. R.then_do z (R.run from steps p.0 e x)) (is p.0 (omega (arith, l, le)))) };
+          related = k.related;
+          kept = k.kept;
+        },
+      )
       done (Breaks s) (y, is, k) = (y, record { finishes = ends (R.Jumps Break y) (λ go. refl) is; related = k.related; kept = k.kept })
       done (Continues s) (y, is, k) = (y, record { finishes = ends (R.Jumps Continue y) (λ go. refl) is; related = k.related; kept = k.kept })
       done (Returns vs s) (y, is, k) = (y, record { finishes = ends (R.Jumps Return y) (λ go. refl) is; related = k.related; kept = k.kept; value = k.value; typed = k.typed })

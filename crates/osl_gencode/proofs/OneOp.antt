@@ -72,12 +72,15 @@ module _ (b : Body) (from : R.Sources) (steps : List Step) (syms : List Symbol) 
       let v = apply name ty (map x.values rs) in
       let y = R.write w v (R.ticked x) in
       let wr = wrote_one w v x in
-      let held : y.values w ≡ v = (let e : w + 0 ≡ w = omega arith in ap y.values (sym e) ∙ wr.inside.each 0 v refl) in
-      (y, record {
-        leads = compute_leads from steps i w name ty rs x at own;
-        related = related_temp b syms room w (v ∷ []) src x y above (one_apart b syms room w ty var) wr rel;
-        kept = kept_temp b syms room s0 w (v ∷ []) x y le wr;
-      }, in_one w ty v y held (applied_type name ty (map x.values rs) sound))
+      let held : y.values w ≡ v = (let e : w + 0 ≡ w = omega arith in ap y.values (sym e) ∙ wr.inside.each 0 v refl) in (
+        y,
+        record {
+          leads = compute_leads from steps i w name ty rs x at own;
+          related = related_temp b syms room w (v ∷ []) src x y above (one_apart b syms room w ty var) wr rel;
+          kept = kept_temp b syms room s0 w (v ∷ []) x y le wr;
+        },
+        in_one w ty v y held (applied_type name ty (map x.values rs) sound),
+      )
 
 -- an operation that is added, with the symbol that it writes
 module _ (b : Body) {A : Type 0} where
@@ -89,11 +92,11 @@ module _ (b : Body) {A : Type 0} where
       record {
         grows = record { ops = extends_push ops op; syms = extends_push syms symbol };
         runs = λ inputs from steps syms1 a src cod wired cov ext rel p.
-          let here = get_extended (syms ++ symbol ∷ []) syms1 w symbol ext (get_seam syms symbol) in
-          let var : IsVariable syms1 w ty = record { symbol = symbol; here = here; type = typed; free = free } in
-          let room1 = room_later b syms syms1 (extends_on syms (syms ++ symbol ∷ []) syms1 (extends_push syms symbol) ext) room in
-          let at = at_push syms1 steps ops op (length ops) (omega arith) cov ∙ ap Some (reading_step syms1 (length ops) name w ty rs plain reads var) in
-          let done = op_gives b from steps syms1 room1 w (length ops) w name ty rs src cod (omega arith) room.within var sound at (all_own b inputs from rs wired all) rel in
-          subst (λ z. GivesCode b from steps syms1 w (In w (ty ∷ [])) (length ops) z cod (Gives (apply name ty (values a) ∷ []) src)) (sym len)
-          (subst (λ vs. GivesCode b from steps syms1 w (In w (ty ∷ [])) (length ops) (length ops + 1) cod (Gives (apply name ty vs ∷ []) src)) (vals a cod p) done);
+            let here = get_extended (syms ++ symbol ∷ []) syms1 w symbol ext (get_seam syms symbol) in
+            let var : IsVariable syms1 w ty = record { symbol = symbol; here = here; type = typed; free = free } in
+            let room1 = room_later b syms syms1 (extends_on syms (syms ++ symbol ∷ []) syms1 (extends_push syms symbol) ext) room in
+            let at = at_push syms1 steps ops op (length ops) (omega arith) cov ∙ ap Some (reading_step syms1 (length ops) name w ty rs plain reads var) in
+            let done = op_gives b from steps syms1 room1 w (length ops) w name ty rs src cod (omega arith) room.within var sound at (all_own b inputs from rs wired all) rel in
+            subst (λ z. GivesCode b from steps syms1 w (In w (ty ∷ [])) (length ops) z cod (Gives (apply name ty (values a) ∷ []) src)) (sym len)
+            (subst (λ vs. GivesCode b from steps syms1 w (In w (ty ∷ [])) (length ops) (length ops + 1) cod (Gives (apply name ty vs ∷ []) src)) (vals a cod p) done);
       }

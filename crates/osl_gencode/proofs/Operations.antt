@@ -92,8 +92,8 @@ module _ (b : Body) where
         own = own_one b (length syms1) (above_own b syms1 (room_later b syms0 syms1 c.code.grows.syms room) (length syms1) (omega (arith, w, longer)));
         places = one_typed syms1 symbol ty typed;
         code = code_as b ops0 (ops1 ++ last ∷ []) syms0 (syms1 ++ symbol ∷ []) Anything (In (length syms1) (ty ∷ [])) _ _ (λ j inputs a s. sym (in_order_then (sems inputs) s (λ vs s1. Gives (apply op ty (map single vs) ∷ []) s1)) j) (
-        code_then b ops0 ops1 (ops1 ++ last ∷ []) syms0 syms1 (syms1 ++ symbol ∷ []) Anything (AllIn ps) (In (length syms1) (ty ∷ [])) (λ inputs a s. in_order (sems inputs) s Gives) (λ inputs vs s1. Gives (apply op ty (map single vs) ∷ []) s1) c.code (
-        op_code b ops1 syms1 (AllIn ps) op ty (firsts ps) symbol (map single) (room_later b syms0 syms1 c.code.grows.syms room) plain reads typed free sound (all_unwired b (length syms1) ps one c.within) (λ vss x all. values_of ps vss x one all)));
+            code_then b ops0 ops1 (ops1 ++ last ∷ []) syms0 syms1 (syms1 ++ symbol ∷ []) Anything (AllIn ps) (In (length syms1) (ty ∷ [])) (λ inputs a s. in_order (sems inputs) s Gives) (λ inputs vs s1. Gives (apply op ty (map single vs) ∷ []) s1) c.code (
+            op_code b ops1 syms1 (AllIn ps) op ty (firsts ps) symbol (map single) (room_later b syms0 syms1 c.code.grows.syms room) plain reads typed free sound (all_unwired b (length syms1) ps one c.within) (λ vss x all. values_of ps vss x one all)));
       }
 
   -- the promotion of a number or a triple: one assignment
@@ -106,8 +106,8 @@ module _ (b : Body) where
         own = own_one b (length syms1) (above_own b syms1 (room_later b syms0 syms1 c.code.grows.syms room) (length syms1) (omega (arith, w, longer)));
         places = one_typed syms1 symbol ty typed;
         code = code_as b ops0 (ops1 ++ last ∷ []) syms0 (syms1 ++ symbol ∷ []) Anything (In (length syms1) (ty ∷ [])) _ _ (λ j inputs a s. then_value (sem inputs s) (λ v s1. Gives ((sym (promotes ty (single v) other)) j ∷ []) s1)) (
-        code_then b ops0 ops1 (ops1 ++ last ∷ []) syms0 syms1 (syms1 ++ symbol ∷ []) Anything (In r (from ∷ [])) (In (length syms1) (ty ∷ [])) (λ inputs a. sem inputs) (λ inputs v s1. Gives (apply Assign ty (single v ∷ []) ∷ []) s1) c.code (
-        op_code b ops1 syms1 (In r (from ∷ [])) Assign ty (r ∷ []) symbol (λ v. single v ∷ []) (room_later b syms0 syms1 c.code.grows.syms room) refl refl typed free (no_closure ty other) (subst (IsOwn b) (let e : r + 0 ≡ r = omega arith in e) (c.own 0 (omega arith)), tt) (λ v x p. ap (λ z. z ∷ []) (single_value r (from ∷ []) v x refl p))));
+            code_then b ops0 ops1 (ops1 ++ last ∷ []) syms0 syms1 (syms1 ++ symbol ∷ []) Anything (In r (from ∷ [])) (In (length syms1) (ty ∷ [])) (λ inputs a. sem inputs) (λ inputs v s1. Gives (apply Assign ty (single v ∷ []) ∷ []) s1) c.code (
+            op_code b ops1 syms1 (In r (from ∷ [])) Assign ty (r ∷ []) symbol (λ v. single v ∷ []) (room_later b syms0 syms1 c.code.grows.syms room) refl refl typed free (no_closure ty other) (subst (IsOwn b) (let e : r + 0 ≡ r = omega arith in e) (c.own 0 (omega arith)), tt) (λ v x p. ap (λ z. z ∷ []) (single_value r (from ∷ []) v x refl p))));
       }
 
   -- ---- the same, of the trees

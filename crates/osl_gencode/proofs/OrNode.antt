@@ -41,15 +41,15 @@ module _ (b : Body) where
       record {
         grows = grows_on ops0 opsA opsN syms0 symsA symsN ca.code.grows (record { ops = extends_push opsA op; syms = extends_push symsA sn });
         runs = λ inputs from steps syms a src cod wired cov ext rel nothing.
-          let extA = extends_on symsA symsN syms (extends_push symsA sn) ext in
-          let roomS = room_later b syms0 syms (extends_on syms0 symsA syms ca.code.grows.syms extA) room in
-          let varN = new_variable symsA syms sn int_ty new ext in
-          let covA = covers_before syms steps opsA opsN (length ops0) (length ops0) (omega arith) (extends_push opsA op) cov in
-          let at = at_push syms steps opsA op (length ops0) l0 cov in
-          let own = subst (λ z. from z ≡ R.Own) (let e : ra + 0 ≡ ra = omega arith in e) (ca.own 0 (omega arith) inputs from wired) in
-          subst (λ z. GivesCode b from steps syms (length syms0) (Negated n) (length ops0) z cod (sem inputs src)) (sym lN) (
-          subst (GivesCode b from steps syms (length syms0) (Negated n) (length ops0) (length opsA + 1) cod) (gives_back (sem inputs src)) (
-          seq_code b from steps syms (In ra (ta ∷ [])) (Negated n) (length syms0) n (length ops0) (length opsA) (length opsA + 1) cod (sem inputs src) (λ v s. Gives v s) k0 (omega arith) (ca.code.runs inputs from steps syms tt src cod wired covA extA rel tt) (λ v s y rel1 kept1 p.
+            let extA = extends_on symsA symsN syms (extends_push symsA sn) ext in
+            let roomS = room_later b syms0 syms (extends_on syms0 symsA syms ca.code.grows.syms extA) room in
+            let varN = new_variable symsA syms sn int_ty new ext in
+            let covA = covers_before syms steps opsA opsN (length ops0) (length ops0) (omega arith) (extends_push opsA op) cov in
+            let at = at_push syms steps opsA op (length ops0) l0 cov in
+            let own = subst (λ z. from z ≡ R.Own) (let e : ra + 0 ≡ ra = omega arith in e) (ca.own 0 (omega arith) inputs from wired) in
+            subst (λ z. GivesCode b from steps syms (length syms0) (Negated n) (length ops0) z cod (sem inputs src)) (sym lN) (
+            subst (GivesCode b from steps syms (length syms0) (Negated n) (length ops0) (length opsA + 1) cod) (gives_back (sem inputs src)) (
+            seq_code b from steps syms (In ra (ta ∷ [])) (Negated n) (length syms0) n (length ops0) (length opsA) (length opsA + 1) cod (sem inputs src) (λ v s. Gives v s) k0 (omega arith) (ca.code.runs inputs from steps syms tt src cod wired covA extA rel tt) (λ v s y rel1 kept1 p.
             let q = numeric_value ra ta v y na p in
             let first = not_gives b from steps syms roomS n (length opsA) n ra q.0 s y (omega arith) (omega (arith, w, k0)) varN at own q.2 q.3 rel1 in
             (first.0, first.1, one_value n (int_ty ∷ []) _ _ first.0 first.2 ∙ ap (λ z. as_int (not (holds z))) (sym q.1)))));

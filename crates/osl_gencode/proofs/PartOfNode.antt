@@ -71,19 +71,19 @@ module _ (b : Body) (kind : Kind) (part : Part) (ps : List Place) (cs : List ℕ
         own = own_one b r (selected_own b syms0 room opsI ops1 symsN syms1 w ty (firsts ps ++ cs) r to ext0 own_w c);
         places = one_place syms1 r to (c.typed (type_later symsA symsN w ty extAN (ca.places.each m ty at)));
         code = code_as b ops0 ops1 syms0 syms1 Anything (In r (to ∷ [])) _ _ (λ j inputs a s. sym (meaning inputs s) j) (
-        code_then b ops0 opsI ops1 syms0 symsN syms1 Anything P2 (In r (to ∷ [])) _ (λ inputs both s. Gives (selection part (field_leaves (frame_at b inputs) kind part (both.0)) (map single (both.1))) s) (code_then b ops0 opsA opsI syms0 symsA symsN Anything P1 P2 _ _ ca.code second) (record {
-          grows = c.grows;
-          runs = λ inputs from steps syms both s x wired cov ext rel p.
-            let extS = extends_on symsN syms1 syms c.grows.syms ext in
-            let roomS = room_later b syms0 syms (extends_on syms0 symsN syms ext0 extS) room in
-            let owns = all_own b inputs from (w ∷ (firsts ps ++ cs)) wired (own_w, unwired_append b (firsts ps) cs (all_unwired b (length symsI) ps one ci.within) (named_unwired b symsN part.component cs name)) in
-            let under = under_append (length symsN) (firsts ps) cs (singles_under b (length symsI) (length symsN) ps lN one ci.within) (named_under b symsN part.component cs name) in
-            let q = in_at ra types (both.0) x m ty p.0 at in
-            let is = map single (both.1) in
-            let value : selection part (field_leaves (frame_at b inputs) kind part (both.0)) is ≡ selected ty (q.0) (all_indices part is) ∷ [] = taken (frame_at b inputs) kind part ty (both.0) is is_kind ∙ ap (λ z. selected ty z (all_indices part is) ∷ []) (taken_leaf (both.0) m (q.0) (q.1)) in
-            subst (λ z. GivesCode b from steps syms (length symsN) (In r (to ∷ [])) (length opsI) (length ops1) x (Gives z s)) (sym value) (
-            select_gives b from steps syms roomS opsI ops1 symsN syms1 w ty (firsts ps ++ cs) r to (q.0) (all_indices part is) s x c cov ext (omega (arith, rw, lA, lI, lN)) (λ k l. above_own b syms0 room k (omega (arith, rw, lA, lI, lN, l)) inputs from wired) owns (omega (arith, wa, lm, lI, lN), under) (q.2) (q.3) (indices_are b symsN syms part ps cs (both.1) s x extS name one p.1 rel) rel);
-        }));
+            code_then b ops0 opsI ops1 syms0 symsN syms1 Anything P2 (In r (to ∷ [])) _ (λ inputs both s. Gives (selection part (field_leaves (frame_at b inputs) kind part (both.0)) (map single (both.1))) s) (code_then b ops0 opsA opsI syms0 symsA symsN Anything P1 P2 _ _ ca.code second) (record {
+              grows = c.grows;
+              runs = λ inputs from steps syms both s x wired cov ext rel p.
+                  let extS = extends_on symsN syms1 syms c.grows.syms ext in
+                  let roomS = room_later b syms0 syms (extends_on syms0 symsN syms ext0 extS) room in
+                  let owns = all_own b inputs from (w ∷ (firsts ps ++ cs)) wired (own_w, unwired_append b (firsts ps) cs (all_unwired b (length symsI) ps one ci.within) (named_unwired b symsN part.component cs name)) in
+                  let under = under_append (length symsN) (firsts ps) cs (singles_under b (length symsI) (length symsN) ps lN one ci.within) (named_under b symsN part.component cs name) in
+                  let q = in_at ra types (both.0) x m ty p.0 at in
+                  let is = map single (both.1) in
+                  let value : selection part (field_leaves (frame_at b inputs) kind part (both.0)) is ≡ selected ty (q.0) (all_indices part is) ∷ [] = taken (frame_at b inputs) kind part ty (both.0) is is_kind ∙ ap (λ z. selected ty z (all_indices part is) ∷ []) (taken_leaf (both.0) m (q.0) (q.1)) in
+                  subst (λ z. GivesCode b from steps syms (length symsN) (In r (to ∷ [])) (length opsI) (length ops1) x (Gives z s)) (sym value) (
+                  select_gives b from steps syms roomS opsI ops1 symsN syms1 w ty (firsts ps ++ cs) r to (q.0) (all_indices part is) s x c cov ext (omega (arith, rw, lA, lI, lN)) (λ k l. above_own b syms0 room k (omega (arith, rw, lA, lI, lN, l)) inputs from wired) owns (omega (arith, wa, lm, lI, lN), under) (q.2) (q.3) (indices_are b symsN syms part ps cs (both.1) s x extS name one p.1 rel) rel);
+            }));
       }
     where
       meaning : (inputs : Inputs) (s : State) → part_taken (frame_at b inputs) kind (sem inputs) part (indices inputs) s ≡ then_value (then_value (sem inputs s) (λ vs s1. then_value (in_order (indices inputs) s1 Gives) (λ vss s2. Gives (vs, vss) s2))) (λ (both : List AnyValue × List (List AnyValue)) s3. Gives (selection part (field_leaves (frame_at b inputs) kind part (both.0)) (map single (both.1))) s3)

@@ -116,24 +116,28 @@ select_more ops ops1 syms0 syms1 w ty name to hs rs symbol r last new sel c =
       place = inr (⊎_elim (λ (q : (r ≡ t) × (rs ≡ [])). let e = q.0 in (omega (arith, e), omega (arith, e, kT, kC))) (λ (q : (length symsT ≤ r) × (r < length syms1)). let a = q.0 in (omega (arith, a, kT), q.1)) c.place);
       typed = λ h. c.typed (record { symbol = symbol; here = get_seam syms0 symbol; type = new.typed });
       runs = λ from steps syms old cov ext tv own above under.
-        let extT = extends_on symsT syms1 syms c.grows.syms ext in
-        let var = new_variable syms0 syms symbol to new extT in
-        let cov1 = covers_before syms steps opsF ops1 (length ops) (length ops) (omega arith) c.grows.ops cov in
-        let covC = covers_before syms steps ops1 ops1 (length ops) (length opsF) (omega (arith, lF)) (extends_self ops1) cov in
-        let at = at_push syms steps ops op (length ops) (omega arith) cov1 ∙ ap Some (reading_step syms (length ops) name t to (w ∷ hs) sel.plain sel.reading var) in
-        let v = apply name to (map old.values (w ∷ hs)) in
-        let y = R.write t v (R.ticked old) in
-        let moves = compute_leads from steps (length ops) t name to (w ∷ hs) old at (own.0, own_left from hs rs own.1) in
-        let same : (k : ℕ) → k < t → y.values k ≡ old.values k = λ k lt. put_other t k v old.values (λ e. absurd (omega (arith, lt, e))) in
-        let t_is : y.values t ≡ v = put_same t v old.values in
-        let did = c.runs from steps syms y covC ext (ap type_of t_is ∙ applied_type name to (map old.values (w ∷ hs)) sel.has) (above t (omega arith), own_right from hs rs own.1) (λ k l. above k (omega (arith, l, kT))) (omega (arith, kT), under_more t (length symsT) rs (omega (arith, kT)) (under_right t hs rs under.1)) in
-        let z = did.0 in
-        let value : z.values r ≡ selected ty (old.values w) (map old.values (hs ++ rs)) = did.2.value ∙ ap (λ q. selected to q (map y.values rs)) t_is ∙ ap (selected to v) (same_values t rs old y same (under_right t hs rs under.1)) ∙ sym (sel.means (old.values w) (map old.values hs) (map old.values rs) tv (length-map hs old.values) (length-map rs old.values)) ∙ sym (ap (selected ty (old.values w)) (map_append old.values hs rs)) in
-        (z, leads_on from steps (length ops) (length opsF) (length ops1) old y z lC (subst (λ q. Leads from steps (length ops) q old y) (sym lF) moves) did.1, record {
-          value = value;
-          older = λ k lt. did.2.older k (omega (arith, lt, kT)) ∙ same k lt;
-          consts = λ k s here is. did.2.consts k s here is ∙ put_other t k v old.values (const_apart syms k t s to var here is);
-          turns = did.2.turns;
-          reads = did.2.reads;
-        }, did.3);
+          let extT = extends_on symsT syms1 syms c.grows.syms ext in
+          let var = new_variable syms0 syms symbol to new extT in
+          let cov1 = covers_before syms steps opsF ops1 (length ops) (length ops) (omega arith) c.grows.ops cov in
+          let covC = covers_before syms steps ops1 ops1 (length ops) (length opsF) (omega (arith, lF)) (extends_self ops1) cov in
+          let at = at_push syms steps ops op (length ops) (omega arith) cov1 ∙ ap Some (reading_step syms (length ops) name t to (w ∷ hs) sel.plain sel.reading var) in
+          let v = apply name to (map old.values (w ∷ hs)) in
+          let y = R.write t v (R.ticked old) in
+          let moves = compute_leads from steps (length ops) t name to (w ∷ hs) old at (own.0, own_left from hs rs own.1) in
+          let same : (k : ℕ) → k < t → y.values k ≡ old.values k = λ k lt. put_other t k v old.values (λ e. absurd (omega (arith, lt, e))) in
+          let t_is : y.values t ≡ v = put_same t v old.values in
+          let did = c.runs from steps syms y covC ext (ap type_of t_is ∙ applied_type name to (map old.values (w ∷ hs)) sel.has) (above t (omega arith), own_right from hs rs own.1) (λ k l. above k (omega (arith, l, kT))) (omega (arith, kT), under_more t (length symsT) rs (omega (arith, kT)) (under_right t hs rs under.1)) in
+          let z = did.0 in
+          let value : z.values r ≡ selected ty (old.values w) (map old.values (hs ++ rs)) = did.2.value ∙ ap (λ q. selected to q (map y.values rs)) t_is ∙ ap (selected to v) (same_values t rs old y same (under_right t hs rs under.1)) ∙ sym (sel.means (old.values w) (map old.values hs) (map old.values rs) tv (length-map hs old.values) (length-map rs old.values)) ∙ sym (ap (selected ty (old.values w)) (map_append old.values hs rs)) in (
+            z,
+            leads_on from steps (length ops) (length opsF) (length ops1) old y z lC (subst (λ q. Leads from steps (length ops) q old y) (sym lF) moves) did.1,
+            record {
+              value = value;
+              older = λ k lt. did.2.older k (omega (arith, lt, kT)) ∙ same k lt;
+              consts = λ k s here is. did.2.consts k s here is ∙ put_other t k v old.values (const_apart syms k t s to var here is);
+              turns = did.2.turns;
+              reads = did.2.reads;
+            },
+            did.3,
+          );
     }

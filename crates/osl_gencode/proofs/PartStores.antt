@@ -73,11 +73,11 @@ module _ (ops : List Op) (syms0 : List Symbol) (w : ℕ) (ty : Ty) where
       record {
         grows = record { ops = extends_push ops op; syms = extends_self syms0 };
         runs = λ from steps syms old cov ext var own owns ownx above lw lx ne below.
-          let at = at_push syms steps ops op (length ops) (omega arith) cov ∙ ap Some (updating_step syms (length ops) name w ty (rs ++ x ∷ []) plain reads var) in
-          let moves = compute_leads from steps (length ops) w name ty (w ∷ (rs ++ x ∷ [])) old at (own, own_snoc from rs x owns ownx) in
-          let v = apply name ty (map old.values (w ∷ (rs ++ x ∷ []))) in
-          let eq : v ≡ with_selected ty (old.values w) (map old.values rs) (old.values x) = ap (λ l. apply name ty (old.values w ∷ l)) (map_snoc old.values rs x) ∙ means (old.values w) (map old.values rs) (old.values x) (length-map rs old.values) in
-          (R.write w v (R.ticked old), subst (λ z. Leads from steps (length ops) z old (R.write w v (R.ticked old))) (sym (push_length ops op)) moves, subst (λ z. Stored syms w z (length syms0) old (R.write w v (R.ticked old))) eq (stored_one syms w ty v (length syms0) old var));
+            let at = at_push syms steps ops op (length ops) (omega arith) cov ∙ ap Some (updating_step syms (length ops) name w ty (rs ++ x ∷ []) plain reads var) in
+            let moves = compute_leads from steps (length ops) w name ty (w ∷ (rs ++ x ∷ [])) old at (own, own_snoc from rs x owns ownx) in
+            let v = apply name ty (map old.values (w ∷ (rs ++ x ∷ []))) in
+            let eq : v ≡ with_selected ty (old.values w) (map old.values rs) (old.values x) = ap (λ l. apply name ty (old.values w ∷ l)) (map_snoc old.values rs x) ∙ means (old.values w) (map old.values rs) (old.values x) (length-map rs old.values) in
+            (R.write w v (R.ticked old), subst (λ z. Leads from steps (length ops) z old (R.write w v (R.ticked old))) (sym (push_length ops op)) moves, subst (λ z. Stored syms w z (length syms0) old (R.write w v (R.ticked old))) eq (stored_one syms w ty v (length syms0) old var));
       }
     where
       own_snoc : (from : R.Sources) (rs : List ℕ) (x : ℕ) → AllOwn from rs → from x ≡ R.Own → AllOwn from (rs ++ x ∷ [])
@@ -135,36 +135,39 @@ module _ (ops : List Op) (syms0 : List Symbol) (w : ℕ) (ty : Ty) where
       record {
         grows = record { ops = extends_on ops opsF opsL (extends_push ops first) (extends_on opsF ops1 opsL c.grows.ops (extends_push ops1 last)); syms = extends_on syms0 (syms0 ++ st ∷ []) syms1 (extends_push syms0 st) c.grows.syms };
         runs = λ from steps syms old cov ext var own owns ownx above lw lx ne below.
-          let extT = extends_on (syms0 ++ st ∷ []) syms1 syms c.grows.syms ext in
-          let varT = new_variable syms0 syms st el new extT in
-          let cov1 = covers_before syms steps ops1 opsL (length ops) (length ops) (omega arith) (extends_push ops1 last) cov in
-          let covF = covers_before syms steps opsF ops1 (length ops) (length ops) (omega arith) c.grows.ops cov1 in
-          let covC = covers_before syms steps ops1 ops1 (length ops) (length opsF) (omega (arith, lF)) (extends_self ops1) cov1 in
-          let atF = at_push syms steps ops first (length ops) (omega arith) covF ∙ ap Some (reading_step syms (length ops) ARef t el (w ∷ i ∷ []) refl refl varT) in
-          let atL = at_push syms steps ops1 last (length ops) (omega (arith, lF, lC)) cov ∙ ap Some (updating_step syms (length ops1) AAssign w ty (i ∷ t ∷ []) refl refl var) in
-          let v1 = apply ARef el (old.values w ∷ old.values i ∷ []) in
-          let y1 = R.write t v1 (R.ticked old) in
-          let moves1 = compute_leads from steps (length ops) t ARef el (w ∷ i ∷ []) old atF (own, (owns.0, tt)) in
-          let ne_t : (k : ℕ) → k < t → k ≢ t = λ k lt e. absurd (omega (arith, lt, e)) in
-          let same1 : (k : ℕ) → k < t → y1.values k ≡ old.values k = λ k lt. put_other t k v1 old.values (ne_t k lt) in
-          let inner = c.runs from steps syms y1 covC ext varT (above t (omega arith)) owns.1 ownx (λ k l. above k (omega (arith, l, kT))) (omega (arith, kT)) (omega (arith, lx, kT)) (ne_t x lx) (deeper t (length (syms0 ++ st ∷ [])) w rs (omega (arith, kT)) below.2) in
-          let y2 = inner.0 in
-          let did = inner.2 in
-          let same2 : (k : ℕ) → k < t → y2.values k ≡ old.values k = λ k lt. did.others k (omega (arith, lt, kT)) (ne_t k lt) ∙ same1 k lt in
-          let v3 = apply AAssign ty (y2.values w ∷ y2.values i ∷ y2.values t ∷ []) in
-          let y3 = R.write w v3 (R.ticked y2) in
-          let moves3 = compute_leads from steps (length ops1) w AAssign ty (w ∷ i ∷ t ∷ []) y2 atL (own, (owns.0, (above t (omega arith), tt))) in
-          let goal = with_selected el v1 (map old.values rs) (old.values x) in
-          let t_is : y2.values t ≡ goal = did.value ∙ ap (λ z. with_selected el z (map y1.values rs) (y1.values x)) (put_same t v1 old.values) ∙ ap (λ z. with_selected el v1 z (y1.values x)) (map_same t w rs y1 old same1 below.2) ∙ ap (with_selected el v1 (map old.values rs)) (same1 x lx) in
-          let eq : v3 ≡ with_selected ty (old.values w) (old.values i ∷ map old.values rs) (old.values x) = ap (λ z. apply AAssign ty (z ∷ y2.values i ∷ y2.values t ∷ [])) (same2 w lw) ∙ ap (λ z. apply AAssign ty (old.values w ∷ z ∷ y2.values t ∷ [])) (same2 i below.0) ∙ ap (λ z. apply AAssign ty (old.values w ∷ old.values i ∷ z ∷ [])) t_is ∙ sym (cond-true _ _ _ is) in
-          let path = leads_on from steps (length ops) (length ops1) (length ops1 + 1) old y2 y3 (omega arith) (leads_on from steps (length ops) (length opsF) (length ops1) old y1 y2 lC (subst (λ z. Leads from steps (length ops) z old y1) (sym lF) moves1) inner.1) moves3 in
-          (y3, subst (λ z. Leads from steps (length ops) z old y3) (sym lL) path, record {
-            value = put_same w v3 y2.values ∙ eq;
-            others = λ k lt kne. put_other w k v3 y2.values kne ∙ same2 k lt;
-            consts = λ k symbol here isc. put_other w k v3 y2.values (const_apart syms k w symbol ty var here isc) ∙ did.consts k symbol here isc ∙ put_other t k v1 old.values (const_apart syms k t symbol el varT here isc);
-            turns = did.turns;
-            reads = did.reads;
-          });
+            let extT = extends_on (syms0 ++ st ∷ []) syms1 syms c.grows.syms ext in
+            let varT = new_variable syms0 syms st el new extT in
+            let cov1 = covers_before syms steps ops1 opsL (length ops) (length ops) (omega arith) (extends_push ops1 last) cov in
+            let covF = covers_before syms steps opsF ops1 (length ops) (length ops) (omega arith) c.grows.ops cov1 in
+            let covC = covers_before syms steps ops1 ops1 (length ops) (length opsF) (omega (arith, lF)) (extends_self ops1) cov1 in
+            let atF = at_push syms steps ops first (length ops) (omega arith) covF ∙ ap Some (reading_step syms (length ops) ARef t el (w ∷ i ∷ []) refl refl varT) in
+            let atL = at_push syms steps ops1 last (length ops) (omega (arith, lF, lC)) cov ∙ ap Some (updating_step syms (length ops1) AAssign w ty (i ∷ t ∷ []) refl refl var) in
+            let v1 = apply ARef el (old.values w ∷ old.values i ∷ []) in
+            let y1 = R.write t v1 (R.ticked old) in
+            let moves1 = compute_leads from steps (length ops) t ARef el (w ∷ i ∷ []) old atF (own, (owns.0, tt)) in
+            let ne_t : (k : ℕ) → k < t → k ≢ t = λ k lt e. absurd (omega (arith, lt, e)) in
+            let same1 : (k : ℕ) → k < t → y1.values k ≡ old.values k = λ k lt. put_other t k v1 old.values (ne_t k lt) in
+            let inner = c.runs from steps syms y1 covC ext varT (above t (omega arith)) owns.1 ownx (λ k l. above k (omega (arith, l, kT))) (omega (arith, kT)) (omega (arith, lx, kT)) (ne_t x lx) (deeper t (length (syms0 ++ st ∷ [])) w rs (omega (arith, kT)) below.2) in
+            let y2 = inner.0 in
+            let did = inner.2 in
+            let same2 : (k : ℕ) → k < t → y2.values k ≡ old.values k = λ k lt. did.others k (omega (arith, lt, kT)) (ne_t k lt) ∙ same1 k lt in
+            let v3 = apply AAssign ty (y2.values w ∷ y2.values i ∷ y2.values t ∷ []) in
+            let y3 = R.write w v3 (R.ticked y2) in
+            let moves3 = compute_leads from steps (length ops1) w AAssign ty (w ∷ i ∷ t ∷ []) y2 atL (own, (owns.0, (above t (omega arith), tt))) in
+            let goal = with_selected el v1 (map old.values rs) (old.values x) in
+            let t_is : y2.values t ≡ goal = did.value ∙ ap (λ z. with_selected el z (map y1.values rs) (y1.values x)) (put_same t v1 old.values) ∙ ap (λ z. with_selected el v1 z (y1.values x)) (map_same t w rs y1 old same1 below.2) ∙ ap (with_selected el v1 (map old.values rs)) (same1 x lx) in
+            let eq : v3 ≡ with_selected ty (old.values w) (old.values i ∷ map old.values rs) (old.values x) = ap (λ z. apply AAssign ty (z ∷ y2.values i ∷ y2.values t ∷ [])) (same2 w lw) ∙ ap (λ z. apply AAssign ty (old.values w ∷ z ∷ y2.values t ∷ [])) (same2 i below.0) ∙ ap (λ z. apply AAssign ty (old.values w ∷ old.values i ∷ z ∷ [])) t_is ∙ sym (cond-true _ _ _ is) in
+            let path = leads_on from steps (length ops) (length ops1) (length ops1 + 1) old y2 y3 (omega arith) (leads_on from steps (length ops) (length opsF) (length ops1) old y1 y2 lC (subst (λ z. Leads from steps (length ops) z old y1) (sym lF) moves1) inner.1) moves3 in (
+              y3,
+              subst (λ z. Leads from steps (length ops) z old y3) (sym lL) path,
+              record {
+                value = put_same w v3 y2.values ∙ eq;
+                others = λ k lt kne. put_other w k v3 y2.values kne ∙ same2 k lt;
+                consts = λ k symbol here isc. put_other w k v3 y2.values (const_apart syms k w symbol ty var here isc) ∙ did.consts k symbol here isc ∙ put_other t k v1 old.values (const_apart syms k t symbol el varT here isc);
+                turns = did.turns;
+                reads = did.reads;
+              },
+            );
       }
     where
       deeper : (n n1 w : ℕ) (rs : List ℕ) → n < n1 → AllBelow n w rs → AllBelow n1 n rs

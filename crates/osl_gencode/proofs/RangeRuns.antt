@@ -118,11 +118,13 @@ module _ (from : R.Sources) (steps : List Step) where
 
   pub branch_leads : (t : Bool) (i c a e : ℕ) (s b : R.State) → slice_get steps i ≡ Some (Branch c (span (i + 1) a) (span a e)) → from c ≡ R.Own → i < a → a ≤ e → R.is_so (s.values c) ≡ t → Leads from steps (taken_from t i a) (taken_to t a e) (R.ticked s) b → Leads from steps i e s b
   branch_leads t i c a e s b at own l1 l2 is k =
-      record { by = λ f x lx en.
-        let p = branch_step i c a e x f s at own l1 l2 lx en in
-        let o = branch_order t i a e l1 l2 in
-        let o0 = o.0 in let o1 = o.1 in let o2 = o.2 in let p1 = p.1 in
-        (p.0, omega (arith, p1, l1, l2), p.2 ∙ ap (λ z. R.then_do (R.either z (R.run from steps p.0 (i + 1) a) (R.run from steps p.0 a e) (R.ticked s)) (R.run from steps p.0 e x)) is ∙ ap (λ z. R.then_do z (R.run from steps p.0 e x)) (branch_is t p.0 i a e (R.ticked s) ∙ whole (taken_from t i a) (taken_to t a e) p.0 (R.ticked s) b (omega (arith, o0, o1, o2, p1, lx)) k)) }
+      record {
+        by = λ f x lx en.
+            let p = branch_step i c a e x f s at own l1 l2 lx en in
+            let o = branch_order t i a e l1 l2 in
+            let o0 = o.0 in let o1 = o.1 in let o2 = o.2 in let p1 = p.1 in
+            (p.0, omega (arith, p1, l1, l2), p.2 ∙ ap (λ z. R.then_do (R.either z (R.run from steps p.0 (i + 1) a) (R.run from steps p.0 a e) (R.ticked s)) (R.run from steps p.0 e x)) is ∙ ap (λ z. R.then_do z (R.run from steps p.0 e x)) (branch_is t p.0 i a e (R.ticked s) ∙ whole (taken_from t i a) (taken_to t a e) p.0 (R.ticked s) b (omega (arith, o0, o1, o2, p1, lx)) k));
+      }
 
   -- an outcome that ends what stands around it
   abbrev pub IsEnd : R.Outcome → Type 0
@@ -130,8 +132,10 @@ module _ (from : R.Sources) (steps : List Step) where
 
   pub branch_ends : (t : Bool) (i c a e : ℕ) (s : R.State) (o : R.Outcome) → IsEnd o → slice_get steps i ≡ Some (Branch c (span (i + 1) a) (span a e)) → from c ≡ R.Own → i < a → a ≤ e → R.is_so (s.values c) ≡ t → Finishes from steps (taken_from t i a) (taken_to t a e) (R.ticked s) o → Finishes from steps i e s o
   branch_ends t i c a e s o over at own l1 l2 is k =
-      record { by = λ f x lx en.
-        let p = branch_step i c a e x f s at own l1 l2 lx en in
-        let q = branch_order t i a e l1 l2 in
-        let o0 = q.0 in let o1 = q.1 in let o2 = q.2 in let p1 = p.1 in
-        p.2 ∙ ap (λ z. R.then_do (R.either z (R.run from steps p.0 (i + 1) a) (R.run from steps p.0 a e) (R.ticked s)) (R.run from steps p.0 e x)) is ∙ ap (λ z. R.then_do z (R.run from steps p.0 e x)) (branch_is t p.0 i a e (R.ticked s) ∙ whole_end (taken_from t i a) (taken_to t a e) p.0 (R.ticked s) o (omega (arith, o0, o1, o2, p1, lx)) k) ∙ over (R.run from steps p.0 e x) }
+      record {
+        by = λ f x lx en.
+            let p = branch_step i c a e x f s at own l1 l2 lx en in
+            let q = branch_order t i a e l1 l2 in
+            let o0 = q.0 in let o1 = q.1 in let o2 = q.2 in let p1 = p.1 in
+            p.2 ∙ ap (λ z. R.then_do (R.either z (R.run from steps p.0 (i + 1) a) (R.run from steps p.0 a e) (R.ticked s)) (R.run from steps p.0 e x)) is ∙ ap (λ z. R.then_do z (R.run from steps p.0 e x)) (branch_is t p.0 i a e (R.ticked s) ∙ whole_end (taken_from t i a) (taken_to t a e) p.0 (R.ticked s) o (omega (arith, o0, o1, o2, p1, lx)) k) ∙ over (R.run from steps p.0 e x);
+      }

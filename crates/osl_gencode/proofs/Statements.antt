@@ -39,7 +39,7 @@ module _ (b : Body) (types : List Ty) where
       record {
         grows = grows_on ops0 ops1 ops2 syms0 syms1 syms2 c.grows d.grows;
         runs = λ inputs from steps syms src cod wired cov ext rel.
-          then_code b from steps syms types (length syms0) (length syms1) (length ops0) (length ops1) (length ops2) cod (f inputs src) (g inputs) ls l1 (c.runs inputs from steps syms src cod wired (covers_before syms steps ops1 ops2 (length ops0) (length ops0) (omega arith) d.grows.ops cov) (extends_on syms1 syms2 syms d.grows.syms ext) rel) (λ s y rel1 kept1. d.runs inputs from steps syms s y wired (covers_before syms steps ops2 ops2 (length ops0) (length ops1) l0 (extends_self ops2) cov) ext rel1);
+            then_code b from steps syms types (length syms0) (length syms1) (length ops0) (length ops1) (length ops2) cod (f inputs src) (g inputs) ls l1 (c.runs inputs from steps syms src cod wired (covers_before syms steps ops1 ops2 (length ops0) (length ops0) (omega arith) d.grows.ops cov) (extends_on syms1 syms2 syms d.grows.syms ext) rel) (λ s y rel1 kept1. d.runs inputs from steps syms s y wired (covers_before syms steps ops2 ops2 (length ops0) (length ops1) l0 (extends_self ops2) cov) ext rel1);
       }
 
   pub stmt_as : (ops0 ops1 : List Op) (syms0 syms1 : List Symbol) (f g : Inputs → Doing) → f ≡ g → StmtCode b types ops0 ops1 syms0 syms1 f → StmtCode b types ops0 ops1 syms0 syms1 g
@@ -82,7 +82,7 @@ module _ (b : Body) (types : List Ty) where
   done_code {P} ops0 ops1 syms0 syms1 sem c = record {
     grows = c.grows;
     runs = λ inputs from steps syms src cod wired cov ext rel.
-      value_code b from steps syms P types (length syms0) (length syms0) (length ops0) (length ops1) (length ops1) cod (sem inputs src) (λ v s. Next s) (omega arith) (omega arith) (c.runs inputs from steps syms tt src cod wired cov ext rel tt) (λ v s y rel1 kept1 p. (y, record { leads = leads_self from steps (length ops1) y; related = rel1; kept = kept_self b (length syms0) y }));
+        value_code b from steps syms P types (length syms0) (length syms0) (length ops0) (length ops1) (length ops1) cod (sem inputs src) (λ v s. Next s) (omega arith) (omega arith) (c.runs inputs from steps syms tt src cod wired cov ext rel tt) (λ v s y rel1 kept1 p. (y, record { leads = leads_self from steps (length ops1) y; related = rel1; kept = kept_self b (length syms0) y }));
   }
 
   -- ---- variables
@@ -94,15 +94,17 @@ module _ (b : Body) (types : List Ty) where
       record {
         grows = record { ops = extends_on ops0 ops1 ops2 c.grows.ops m.grows; syms = c.grows.syms };
         runs = λ inputs from steps syms src cod wired cov ext rel.
-          let roomS = room_later b syms0 syms (extends_on syms0 syms1 syms c.grows.syms ext) room in
-          value_code b from steps syms P types (length syms0) (length syms0) (length ops0) (length ops1) (length ops2) cod (sem inputs src) (λ vs s. Next (write_leaves k0 vs s)) (omega arith) l1 (c.runs inputs from steps syms tt src cod wired (covers_before syms steps ops1 ops2 (length ops0) (length ops0) (omega arith) m.grows cov) ext rel tt) (λ vs s x rel1 kept1 p.
+            let roomS = room_later b syms0 syms (extends_on syms0 syms1 syms c.grows.syms ext) room in
+            value_code b from steps syms P types (length syms0) (length syms0) (length ops0) (length ops1) (length ops2) cod (sem inputs src) (λ vs s. Next (write_leaves k0 vs s)) (omega arith) l1 (c.runs inputs from steps syms tt src cod wired (covers_before syms steps ops1 ops2 (length ops0) (length ops0) (omega arith) m.grows cov) ext rel tt) (λ vs s x rel1 kept1 p.
             let h = held syms s vs x ext rel1 p in
-            let did = block_moves b ops1 ops2 w rs kinds vs inputs from steps syms x m wired (covers_before syms steps ops2 ops2 (length ops0) (length ops1) l0 (extends_self ops2) cov) (leaves_variables b syms k0 w kinds roomS leaves) sources h in
-            (did.0, record {
-              leads = did.1;
-              related = related_block b syms roomS k0 w kinds leaves vs s x did.0 h.typed did.2 rel1;
-              kept = kept_block b syms roomS k0 w kinds leaves (length syms0) vs x did.0 loud h.typed did.2;
-            }));
+            let did = block_moves b ops1 ops2 w rs kinds vs inputs from steps syms x m wired (covers_before syms steps ops2 ops2 (length ops0) (length ops1) l0 (extends_self ops2) cov) (leaves_variables b syms k0 w kinds roomS leaves) sources h in (
+              did.0,
+              record {
+                leads = did.1;
+                related = related_block b syms roomS k0 w kinds leaves vs s x did.0 h.typed did.2 rel1;
+                kept = kept_block b syms roomS k0 w kinds leaves (length syms0) vs x did.0 loud h.typed did.2;
+              },
+            ));
       }
 
   -- ---- ways out
@@ -141,28 +143,30 @@ module _ (b : Body) (types : List Ty) where
   break_code ops0 syms0 = record {
     grows = record { ops = extends_push ops0 break_op; syms = extends_self syms0 };
     runs = λ inputs from steps syms src cod wired cov ext rel.
-      (R.ticked cod, record { finishes = leaving break_op Break from steps syms ops0 (length ops0) cod (omega arith) (break_step syms (length ops0)) cov; related = related_tick syms src cod rel; kept = kept_older b (length syms0) cod (R.ticked cod) (λ k h. refl) });
+        (R.ticked cod, record { finishes = leaving break_op Break from steps syms ops0 (length ops0) cod (omega arith) (break_step syms (length ops0)) cov; related = related_tick syms src cod rel; kept = kept_older b (length syms0) cod (R.ticked cod) (λ k h. refl) });
   }
 
   pub continue_code : (ops0 : List Op) (syms0 : List Symbol) → StmtCode b types ops0 (ops0 ++ continue_op ∷ []) syms0 syms0 (λ inputs. Continues)
   continue_code ops0 syms0 = record {
     grows = record { ops = extends_push ops0 continue_op; syms = extends_self syms0 };
     runs = λ inputs from steps syms src cod wired cov ext rel.
-      (R.ticked cod, record { finishes = leaving continue_op Continue from steps syms ops0 (length ops0) cod (omega arith) (continue_step syms (length ops0)) cov; related = related_tick syms src cod rel; kept = kept_older b (length syms0) cod (R.ticked cod) (λ k h. refl) });
+        (R.ticked cod, record { finishes = leaving continue_op Continue from steps syms ops0 (length ops0) cod (omega arith) (continue_step syms (length ops0)) cov; related = related_tick syms src cod rel; kept = kept_older b (length syms0) cod (R.ticked cod) (λ k h. refl) });
   }
 
   -- a return without a value
   pub return_code : (ops0 : List Op) (syms0 : List Symbol) → types ≡ [] → StmtCode b types ops0 (ops0 ++ return_op ∷ []) syms0 syms0 (λ inputs. Returns [])
   return_code ops0 syms0 none = record {
     grows = record { ops = extends_push ops0 return_op; syms = extends_self syms0 };
-    runs = λ inputs from steps syms src cod wired cov ext rel.
-      (R.ticked cod, record {
+    runs = λ inputs from steps syms src cod wired cov ext rel. (
+      R.ticked cod,
+      record {
         finishes = leaving return_op Return from steps syms ops0 (length ops0) cod (omega arith) (return_step syms (length ops0)) cov;
         related = related_tick syms src cod rel;
         kept = λ k h o. refl;
         value = record { each = λ k v at. absurd (cc at) };
         typed = sym none;
-      });
+      },
+    );
   }
 
   -- a return with a value, which is moved into the symbols after the frame
@@ -175,23 +179,25 @@ module _ (b : Body) (types : List Ty) where
       record {
         grows = record { ops = extends_on ops0 ops1 opsR c.code.grows.ops to; syms = c.code.grows.syms };
         runs = λ inputs from steps syms src cod wired cov ext rel.
-          let ext0 = extends_on syms0 syms1 syms c.code.grows.syms ext in
-          let roomS = room_later b syms0 syms ext0 room in
-          let cov2 = covers_before syms steps ops2 opsR (length ops0) (length ops0) (omega arith) (extends_push ops2 return_op) cov in
-          value_code b from steps syms (In r types) types (length syms0) (length syms0) (length ops0) (length ops1) (length opsR) cod (sem inputs src) (λ v s. Returns v s) (omega arith) to.longer (c.code.runs inputs from steps syms tt src cod wired (covers_before syms steps ops1 opsR (length ops0) (length ops0) (omega arith) to cov) ext rel tt) (λ v s x rel1 kept1 p.
+            let ext0 = extends_on syms0 syms1 syms c.code.grows.syms ext in
+            let roomS = room_later b syms0 syms ext0 room in
+            let cov2 = covers_before syms steps ops2 opsR (length ops0) (length ops0) (omega arith) (extends_push ops2 return_op) cov in
+            value_code b from steps syms (In r types) types (length syms0) (length syms0) (length ops0) (length ops1) (length opsR) cod (sem inputs src) (λ v s. Returns v s) (omega arith) to.longer (c.code.runs inputs from steps syms tt src cod wired (covers_before syms steps ops1 opsR (length ops0) (length ops0) (omega arith) to cov) ext rel tt) (λ v s x rel1 kept1 p.
             let varsS = variables_later syms0 syms w types ext0 vars in
             let did = block_moves b ops1 ops2 w rs types v inputs from steps syms x m wired (covers_before syms steps ops2 ops2 (length ops0) (length ops1) l0 (extends_self ops2) cov2) varsS (row_sources b w r (length types) rs row c.own apart) (row_held rs r types v x row p) in
             let y = did.0 in
             let n : length v ≡ length types = sym (length-map v type_of) ∙ ap length p.typed in
             let rel2 = related_temp b syms roomS w v s x y (omega arith) (λ k symbol here is. ⊎_elim (λ a. inl a) (λ g. inr (omega (arith, g, n))) (consts_apart syms w types varsS k symbol here is)) did.2 rel1 in
-            let ends = leaving return_op Return from steps syms ops2 (length ops0) y (omega (arith, l0, l1)) (return_step syms (length ops2)) cov in
-            (R.ticked y, record {
-              finishes = leads_end from steps (length ops1) (length ops2) (length opsR) x y (R.Jumps Return (R.ticked y)) (omega (arith, lR)) did.1 ends;
-              related = related_tick syms s y rel2;
-              kept = λ k h o. did.2.outside k (⊎_elim (λ l. inl (let f = first roomS in omega (arith, l, f))) (λ g. inr (omega (arith, g, n))) o);
-              value = did.2.inside;
-              typed = p.typed;
-            }));
+            let ends = leaving return_op Return from steps syms ops2 (length ops0) y (omega (arith, l0, l1)) (return_step syms (length ops2)) cov in (
+              R.ticked y,
+              record {
+                finishes = leads_end from steps (length ops1) (length ops2) (length opsR) x y (R.Jumps Return (R.ticked y)) (omega (arith, lR)) did.1 ends;
+                related = related_tick syms s y rel2;
+                kept = λ k h o. did.2.outside k (⊎_elim (λ l. inl (let f = first roomS in omega (arith, l, f))) (λ g. inr (omega (arith, g, n))) o);
+                value = did.2.inside;
+                typed = p.typed;
+              },
+            ));
       }
     where
       first : {syms : List Symbol} → Room b syms → b.start ≤ frame_end b

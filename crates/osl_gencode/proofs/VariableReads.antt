@@ -60,12 +60,15 @@ module _ (b : Body) (from : R.Sources) (steps : List Step) (syms : List Symbol) 
   select_gives ops0 ops1 syms0 syms1 w ty rs r to v is src x c cov ext le above own under v_is tv values rel =
       let did = c.runs from steps syms x cov ext (ap type_of v_is ∙ tv) own above under in
       let y = did.0 in
-      let value = did.2.value ∙ ap (λ z. selected ty z (map x.values rs)) v_is ∙ ap (selected ty v) values in
-      (y, record {
-        leads = did.1;
-        related = related_computed b syms room r (selected ty (x.values w) (map x.values rs)) (length syms0) src x y le did.2 rel;
-        kept = kept_older b (length syms0) x y did.2.older;
-      }, in_one r to (selected ty v is) y value (sym (ap type_of value) ∙ did.3))
+      let value = did.2.value ∙ ap (λ z. selected ty z (map x.values rs)) v_is ∙ ap (selected ty v) values in (
+        y,
+        record {
+          leads = did.1;
+          related = related_computed b syms room r (selected ty (x.values w) (map x.values rs)) (length syms0) src x y le did.2 rel;
+          kept = kept_older b (length syms0) x y did.2.older;
+        },
+        in_one r to (selected ty v is) y value (sym (ap type_of value) ∙ did.3),
+      )
 
 pub singles_under : (b : Body) (hi n : ℕ) (ps : List Place) → hi ≤ n → AllSingle ps → AllWithin b hi ps → AllUnder n (firsts ps)
 singles_under b hi n [] le one all = tt
@@ -164,16 +167,16 @@ module _ (b : Body) (rt : Root) (part : Part) (ps : List Place) (cs : List ℕ) 
         own = own_one b r (selected_own b syms0 room opsI ops1 symsN syms1 w ty (firsts ps ++ cs) r to ext0 src.own c);
         places = one_place syms1 r to (c.typed (variable_typed symsN w ty (variable_later syms0 symsN w ty ext0 src.variable)));
         code = code_as b ops0 ops1 syms0 syms1 Anything (In r (to ∷ [])) _ _ (λ j inputs a s. sym (meaning indices inputs s) j) (
-        code_then b ops0 opsI ops1 syms0 symsN syms1 Anything (AllIn ps) (In r (to ∷ [])) (λ inputs a s. in_order (indices inputs) s Gives) (λ inputs vss s1. read_part (frame_at b inputs) rt part (map single vss) s1) (code_more b ops0 opsI syms0 symsI symsN Anything (AllIn ps) (λ inputs a s. in_order (indices inputs) s Gives) extN ci.code) (record {
-          grows = c.grows;
-          runs = λ inputs from steps syms vss s x wired cov ext rel all.
-            let extS = extends_on symsN syms1 syms c.grows.syms ext in
-            let roomS = room_later b syms0 syms (extends_on syms0 symsN syms ext0 extS) room in
-            let owns = all_own b inputs from (w ∷ (firsts ps ++ cs)) wired (src.own, unwired_append b (firsts ps) cs (all_unwired b (length symsI) ps one ci.within) (named_unwired b symsN part.component cs name)) in
-            let under = under_append (length symsN) (firsts ps) cs (singles_under b (length symsI) (length symsN) ps lN one ci.within) (named_under b symsN part.component cs name) in
-            subst (GivesCode b from steps syms (length symsN) (In r (to ∷ [])) (length opsI) (length ops1) x) (sym (src.reads inputs from wired (map single vss) s)) (
-            select_gives b from steps syms roomS opsI ops1 symsN syms1 w ty (firsts ps ++ cs) r to (src.leaf s) (all_indices part (map single vss)) s x c cov ext (omega (arith, rw, lI, lN)) (λ k l. above_own b syms0 room k (omega (arith, rw, lI, lN, l)) inputs from wired) owns (omega (arith, low, rw, lI, lN), under) (src.holds syms s x rel) (src.typed syms s x rel) (indices_are b symsN syms part ps cs vss s x extS name one all rel) rel);
-        }));
+            code_then b ops0 opsI ops1 syms0 symsN syms1 Anything (AllIn ps) (In r (to ∷ [])) (λ inputs a s. in_order (indices inputs) s Gives) (λ inputs vss s1. read_part (frame_at b inputs) rt part (map single vss) s1) (code_more b ops0 opsI syms0 symsI symsN Anything (AllIn ps) (λ inputs a s. in_order (indices inputs) s Gives) extN ci.code) (record {
+              grows = c.grows;
+              runs = λ inputs from steps syms vss s x wired cov ext rel all.
+                  let extS = extends_on symsN syms1 syms c.grows.syms ext in
+                  let roomS = room_later b syms0 syms (extends_on syms0 symsN syms ext0 extS) room in
+                  let owns = all_own b inputs from (w ∷ (firsts ps ++ cs)) wired (src.own, unwired_append b (firsts ps) cs (all_unwired b (length symsI) ps one ci.within) (named_unwired b symsN part.component cs name)) in
+                  let under = under_append (length symsN) (firsts ps) cs (singles_under b (length symsI) (length symsN) ps lN one ci.within) (named_under b symsN part.component cs name) in
+                  subst (GivesCode b from steps syms (length symsN) (In r (to ∷ [])) (length opsI) (length ops1) x) (sym (src.reads inputs from wired (map single vss) s)) (
+                  select_gives b from steps syms roomS opsI ops1 symsN syms1 w ty (firsts ps ++ cs) r to (src.leaf s) (all_indices part (map single vss)) s x c cov ext (omega (arith, rw, lI, lN)) (λ k l. above_own b syms0 room k (omega (arith, rw, lI, lN, l)) inputs from wired) owns (omega (arith, low, rw, lI, lN), under) (src.holds syms s x rel) (src.typed syms s x rel) (indices_are b symsN syms part ps cs vss s x extS name one all rel) rel);
+            }));
       }
 
 -- ---- what may be connected
@@ -212,30 +215,30 @@ module _ (b : Body) (k : ℕ) (part : Part) (ps : List Place) (cs : List ℕ) (r
         own = own_one b r (selected_own b syms0 room opsF ops1 symsT syms1 t mid rs r last (extends_on syms0 symsN symsT ext0 (extends_push symsN symbol)) own_t c);
         places = one_place syms1 r last (c.typed (record { symbol = symbol; here = get_seam symsN symbol; type = new.typed }));
         code = code_as b ops0 ops1 syms0 syms1 Anything (In r (last ∷ [])) _ _ (λ i inputs a s. sym (in_order_then (indices inputs) s (λ vss s1. read_part (frame_at b inputs) (root.Variable k) part (map single vss) s1)) i) (
-        code_then b ops0 opsI ops1 syms0 symsN syms1 Anything (AllIn ps) (In r (last ∷ [])) (λ inputs a s. in_order (indices inputs) s Gives) (λ inputs vss s1. read_part (frame_at b inputs) (root.Variable k) part (map single vss) s1) (code_more b ops0 opsI syms0 symsI symsN Anything (AllIn ps) (λ inputs a s. in_order (indices inputs) s Gives) extN ci.code) (record {
-          grows = record { ops = toT; syms = extN1 };
-          runs = λ inputs from steps syms vss s x wired cov ext rel all_in.
-            let extT = extends_on symsT syms1 syms c.grows.syms ext in
-            let extS = extends_on symsN syms1 syms extN1 ext in
-            let roomS = room_later b syms0 syms (extends_on syms0 symsN syms ext0 extS) room in
-            let var = new_variable symsN syms symbol mid new extT in
-            let owns = subst (AllOwn from) (sym split) (all_own b inputs from (firsts ps ++ cs) wired all) in
-            let cov1 = covers_before syms steps opsF ops1 (length opsI) (length opsI) (omega arith) c.grows.ops cov in
-            let covC = covers_before syms steps ops1 ops1 (length opsI) (length opsF) (omega (arith, lF)) (extends_self ops1) cov in
-            let at = at_push syms steps opsI op (length opsI) (omega arith) cov1 ∙ ap Some (reading_step syms (length opsI) name t mid (symbol_of b k0 ∷ hs) sel.plain sel.reading var) in
-            let is = map single vss in
-            let values : map x.values hs ++ map x.values rs ≡ all_indices part is = sym (split_values x.values hs rs (firsts ps ++ cs) split) ∙ indices_are b symsN syms part ps cs vss s x extS is_named one all_in rel in
-            let first : (o : Option AnyValue) → inputs k ≡ From o → symbol_of b k0 ≡ k = λ o e. let f = wired.first k o e in let n = f.1 in (let z : k0 ≡ place_of b.structures b.kinds k = omega (arith, inside, n) in ap (symbol_of b) z ∙ f.0) in
-            let typed : (v : AnyValue) → inputs k ≡ From (Some v) → type_of v ≡ ty = λ v e. wired.typed k v ty e (let n = (wired.first k (Some v) e).1 in let z : place_of b.structures b.kinds k ≡ k0 = omega (arith, inside, n) in ap (slice_get b.types) z ∙ here) in
-            let read = read_gives b from steps syms roomS t (length opsI) t k k0 name ty mid hs (inputs k) s x (omega arith) (omega (arith, rw, lI, lN)) var here (wired.here k j lt inside) first typed at (own_left from hs rs owns) rel in
-            let read1 = subst (λ z. GivesCode b from steps syms t (HasRead syms t name ty mid hs x) (length opsI) z x (read_input (inputs k) k (s.vars k0 ∷ []) s)) (sym lF) read in
-            subst (GivesCode b from steps syms t (In r (last ∷ [])) (length opsI) (length ops1) x) (sym (leaf_read (frame_at b inputs) k part ty is s kind)) (
-            seq_code b from steps syms (HasRead syms t name ty mid hs x) (In r (last ∷ [])) t (length symsT) (length opsI) (length opsF) (length ops1) x (read_input (inputs k) k (s.vars k0 ∷ []) s) (λ vs s1. Gives (selected ty (single vs) (all_indices part is) ∷ []) s1) (omega (arith, kT)) lC read1 (λ vs s1 y rel1 kept1 p.
-              let same : (i : ℕ) → i < t → y.values i ≡ x.values i = λ i l. p.others i (λ e. absurd (omega (arith, e, l))) in
-              let under_rs = split_under t hs rs (firsts ps ++ cs) split under in
-              let v = apply name mid (single vs ∷ map x.values hs) in
-              let value : selected ty (single vs) (all_indices part is) ≡ selected mid v (map x.values rs) = ap (selected ty (single vs)) (sym values) ∙ sel.means (single vs) (map x.values hs) (map x.values rs) p.typed (length-map hs x.values) (length-map rs x.values) in
-              subst (λ z. GivesCode b from steps syms (length symsT) (In r (last ∷ [])) (length opsF) (length ops1) y (Gives (z ∷ []) s1)) (sym value) (
-              select_gives b from steps syms roomS opsF ops1 symsT syms1 t mid rs r last v (map x.values rs) s1 y c covC ext (omega (arith, rw, lI, lN, kT)) (λ i l. above_own b syms0 room i (omega (arith, rw, lI, lN, kT, l)) inputs from wired) (own_t inputs from wired, own_right from hs rs owns) (omega (arith, kT), under_more t (length symsT) rs (omega (arith, kT)) under_rs) p.value (applied_type name mid (single vs ∷ map x.values hs) sel.has) (same_values t rs x y same under_rs) rel1)));
-        }));
+            code_then b ops0 opsI ops1 syms0 symsN syms1 Anything (AllIn ps) (In r (last ∷ [])) (λ inputs a s. in_order (indices inputs) s Gives) (λ inputs vss s1. read_part (frame_at b inputs) (root.Variable k) part (map single vss) s1) (code_more b ops0 opsI syms0 symsI symsN Anything (AllIn ps) (λ inputs a s. in_order (indices inputs) s Gives) extN ci.code) (record {
+              grows = record { ops = toT; syms = extN1 };
+              runs = λ inputs from steps syms vss s x wired cov ext rel all_in.
+                  let extT = extends_on symsT syms1 syms c.grows.syms ext in
+                  let extS = extends_on symsN syms1 syms extN1 ext in
+                  let roomS = room_later b syms0 syms (extends_on syms0 symsN syms ext0 extS) room in
+                  let var = new_variable symsN syms symbol mid new extT in
+                  let owns = subst (AllOwn from) (sym split) (all_own b inputs from (firsts ps ++ cs) wired all) in
+                  let cov1 = covers_before syms steps opsF ops1 (length opsI) (length opsI) (omega arith) c.grows.ops cov in
+                  let covC = covers_before syms steps ops1 ops1 (length opsI) (length opsF) (omega (arith, lF)) (extends_self ops1) cov in
+                  let at = at_push syms steps opsI op (length opsI) (omega arith) cov1 ∙ ap Some (reading_step syms (length opsI) name t mid (symbol_of b k0 ∷ hs) sel.plain sel.reading var) in
+                  let is = map single vss in
+                  let values : map x.values hs ++ map x.values rs ≡ all_indices part is = sym (split_values x.values hs rs (firsts ps ++ cs) split) ∙ indices_are b symsN syms part ps cs vss s x extS is_named one all_in rel in
+                  let first : (o : Option AnyValue) → inputs k ≡ From o → symbol_of b k0 ≡ k = λ o e. let f = wired.first k o e in let n = f.1 in (let z : k0 ≡ place_of b.structures b.kinds k = omega (arith, inside, n) in ap (symbol_of b) z ∙ f.0) in
+                  let typed : (v : AnyValue) → inputs k ≡ From (Some v) → type_of v ≡ ty = λ v e. wired.typed k v ty e (let n = (wired.first k (Some v) e).1 in let z : place_of b.structures b.kinds k ≡ k0 = omega (arith, inside, n) in ap (slice_get b.types) z ∙ here) in
+                  let read = read_gives b from steps syms roomS t (length opsI) t k k0 name ty mid hs (inputs k) s x (omega arith) (omega (arith, rw, lI, lN)) var here (wired.here k j lt inside) first typed at (own_left from hs rs owns) rel in
+                  let read1 = subst (λ z. GivesCode b from steps syms t (HasRead syms t name ty mid hs x) (length opsI) z x (read_input (inputs k) k (s.vars k0 ∷ []) s)) (sym lF) read in
+                  subst (GivesCode b from steps syms t (In r (last ∷ [])) (length opsI) (length ops1) x) (sym (leaf_read (frame_at b inputs) k part ty is s kind)) (
+                  seq_code b from steps syms (HasRead syms t name ty mid hs x) (In r (last ∷ [])) t (length symsT) (length opsI) (length opsF) (length ops1) x (read_input (inputs k) k (s.vars k0 ∷ []) s) (λ vs s1. Gives (selected ty (single vs) (all_indices part is) ∷ []) s1) (omega (arith, kT)) lC read1 (λ vs s1 y rel1 kept1 p.
+                  let same : (i : ℕ) → i < t → y.values i ≡ x.values i = λ i l. p.others i (λ e. absurd (omega (arith, e, l))) in
+                  let under_rs = split_under t hs rs (firsts ps ++ cs) split under in
+                  let v = apply name mid (single vs ∷ map x.values hs) in
+                  let value : selected ty (single vs) (all_indices part is) ≡ selected mid v (map x.values rs) = ap (selected ty (single vs)) (sym values) ∙ sel.means (single vs) (map x.values hs) (map x.values rs) p.typed (length-map hs x.values) (length-map rs x.values) in
+                  subst (λ z. GivesCode b from steps syms (length symsT) (In r (last ∷ [])) (length opsF) (length ops1) y (Gives (z ∷ []) s1)) (sym value) (
+                  select_gives b from steps syms roomS opsF ops1 symsT syms1 t mid rs r last v (map x.values rs) s1 y c covC ext (omega (arith, rw, lI, lN, kT)) (λ i l. above_own b syms0 room i (omega (arith, rw, lI, lN, kT, l)) inputs from wired) (own_t inputs from wired, own_right from hs rs owns) (omega (arith, kT), under_more t (length symsT) rs (omega (arith, kT)) under_rs) p.value (applied_type name mid (single vs ∷ map x.values hs) sel.has) (same_values t rs x y same under_rs) rel1)));
+            }));
       }
