@@ -1,0 +1,5 @@
+pub mod KindOf
+pub mod Kinded
+pub mod StatementsFit
+pub mod Measures
+pub mod WellTyped
