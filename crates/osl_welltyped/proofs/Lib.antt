@@ -5,3 +5,4 @@ pub mod Reached
 pub mod FoundFits
 pub mod Agreement
 pub mod Suffixes
+pub mod TypeTables
