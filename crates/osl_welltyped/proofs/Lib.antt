@@ -6,3 +6,4 @@ pub mod FoundFits
 pub mod Agreement
 pub mod Suffixes
 pub mod TypeTables
+pub mod OperatorsFit

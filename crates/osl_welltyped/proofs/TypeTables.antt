@@ -19,6 +19,7 @@ use Rattle.osl_overload.specs.declared.signature.Kind.{Kind}
 use Rattle.osl_overload.specs.declared.signature.Kind.TheVariants.{Value, Structure, Void}
 use Rattle.osl_overload.specs.declared.signature.Signature.{Signature}
 use Rattle.osl_tree.specs.declared.expr.AssignOp.{AssignOp}
+use Rattle.osl_tree.specs.declared.expr.AssignOp.TheVariants as to
 use Rattle.osl_tree.specs.declared.expr.BinaryOp.{BinaryOp}
 use Rattle.osl_tree.specs.declared.expr.BinaryOp.TheVariants as by
 use Rattle.osl_typed.specs.declared.found.Callee.{Callee}
@@ -243,3 +244,102 @@ operation_takes o a b r h =
     let at : operation_fits (operation o (Value (only both.left.base)) (Value (only both.right.base))) ≡ true =
     each_pair (λ o a b. operation_fits (operation o (Value (only a)) (Value (only b)))) operators_fit o both.left.base both.right.base in
     ap operation_fits (sym h ∙ (λ i. operation o (both.left.is i) (both.right.is i))) ∙ at
+
+-- ---- operators of assignments
+
+abbrev is_updating : BinaryOp → Bool
+is_updating by.Add = true
+is_updating by.Subtract = true
+is_updating by.Multiply = true
+is_updating by.Divide = true
+is_updating by.ShiftLeft = true
+is_updating by.ShiftRight = true
+is_updating by.BitAnd = true
+is_updating by.BitXor = true
+is_updating by.BitOr = true
+is_updating _ = false
+
+operator_updates : (a : AssignOp) (o : BinaryOp) → operators.operator_of a ≡ Some o → is_updating o ≡ true
+operator_updates to.Set o h = none_is_not o h
+operator_updates to.Add o h = ap is_updating (sym (some_same by.Add o h))
+operator_updates to.Subtract o h = ap is_updating (sym (some_same by.Subtract o h))
+operator_updates to.Multiply o h = ap is_updating (sym (some_same by.Multiply o h))
+operator_updates to.Divide o h = ap is_updating (sym (some_same by.Divide o h))
+operator_updates to.ShiftLeft o h = ap is_updating (sym (some_same by.ShiftLeft o h))
+operator_updates to.ShiftRight o h = ap is_updating (sym (some_same by.ShiftRight o h))
+operator_updates to.BitAnd o h = ap is_updating (sym (some_same by.BitAnd o h))
+operator_updates to.BitXor o h = ap is_updating (sym (some_same by.BitXor o h))
+operator_updates to.BitOr o h = ap is_updating (sym (some_same by.BitOr o h))
+
+-- the value of an operation goes to a kind by `=`
+abbrev pub goes_to : Ty → Kind → Bool
+goes_to ty kind = is_some (cost (record { kind = Value ty; zero_literal = false; writable = false }) kind)
+
+abbrev implies : Bool → Bool → Bool
+implies true b = b
+implies false b = true
+
+implied : (a b : Bool) → implies a b ≡ true → a ≡ true → b ≡ true
+implied true b h is = h
+implied false b h is = absurd (false≢true is)
+
+abbrev update_fits : BinaryOp → Kind → Option operators.Operation → Bool
+update_fits o a None = true
+update_fits o a (Some r) = implies (is_updating o) (implies (goes_to r.ty a) (updates_by r.op r.ty a (Some r.right)))
+
+updates_fit : all_pairs (λ o a b. update_fits o (Value (only a)) (operation o (Value (only a)) (Value (only b)))) ≡ true
+unfolding is_allowed
+updates_fit = refl
+
+pub operation_updates : (assign : AssignOp) (o : BinaryOp) (a b : Kind) (r : operators.Operation) → operators.operator_of assign ≡ Some o → operation o a b ≡ Some r → goes_to r.ty a ≡ true → updates_by r.op r.ty a (Some r.right) ≡ true
+operation_updates assign o a b r is h goes =
+    let both = operation_alone o a b r h in
+    let at : update_fits o (Value (only both.left.base)) (operation o (Value (only both.left.base)) (Value (only both.right.base))) ≡ true =
+    each_pair (λ o a b. update_fits o (Value (only a)) (operation o (Value (only a)) (Value (only b)))) updates_fit o both.left.base both.right.base in
+    let here : update_fits o a (Some r) ≡ true = ap (update_fits o a) (sym h) ∙ (λ i. update_fits o (both.left.is i) (operation o (both.left.is i) (both.right.is i))) ∙ at in
+    implied _ _ (implied _ _ here (operator_updates assign o is)) goes
+
+-- ---- one operand
+
+abbrev one_fits : OpName → (Ty → Bool) → (Ty → Ty) → Base → Bool
+one_fits op test gives b = implies (test (only b)) (takes op (gives (only b)) (Some (only b ∷ [])))
+
+one_takes : (op : OpName) (test : Ty → Bool) (gives : Ty → Ty) → Short test → list_all (one_fits op test gives) bases ≡ true → (ty : Ty) → test ty ≡ true → takes op (gives ty) (Some (ty ∷ [])) ≡ true
+one_takes op test gives short all ty h =
+    let is = only_base ty (short ty h) in
+    ap (λ (t : Ty). takes op (gives t) (Some (t ∷ []))) is ∙ implied _ _ (each_base (one_fits op test gives) all ty.base) (ap test (sym is) ∙ h)
+
+pub neg_takes : (ty : Ty) → is_arithmetic ty ≡ true → takes O.Neg ty (Some (ty ∷ [])) ≡ true
+unfolding is_allowed
+neg_takes = one_takes O.Neg (λ ty. is_arithmetic ty) (λ ty. ty) short_arithmetic refl
+
+pub plus_takes : (ty : Ty) → is_arithmetic ty ≡ true → takes O.Assign ty (Some (ty ∷ [])) ≡ true
+unfolding is_allowed
+plus_takes = one_takes O.Assign (λ ty. is_arithmetic ty) (λ ty. ty) short_arithmetic refl
+
+pub compl_takes : (ty : Ty) → is_only Int ty ≡ true → takes O.Compl ty (Some (ty ∷ [])) ≡ true
+unfolding is_allowed
+compl_takes = one_takes O.Compl (is_only Int) (λ ty. ty) (short_only Int) refl
+
+pub not_takes : (ty : Ty) → is_number ty ≡ true → takes O.Not (only Int) (Some (ty ∷ [])) ≡ true
+unfolding is_allowed
+not_takes = one_takes O.Not (λ ty. is_number ty) (λ ty. only Int) short_number refl
+
+-- ---- conversions
+
+abbrev conversion_fits : Base → Base → Bool
+conversion_fits wanted from = implies (is_convertible (only wanted) (only from)) (takes (conversion_of (only wanted) (only from)) (only wanted) (Some (only from ∷ [])))
+
+conversions_fit : list_all (λ a. list_all (conversion_fits a) bases) bases ≡ true
+unfolding is_allowed
+conversions_fit = refl
+
+pub conversion_takes : (wanted from : Ty) → is_convertible wanted from ≡ true → takes (conversion_of wanted from) wanted (Some (from ∷ [])) ≡ true
+conversion_takes wanted from h =
+    let short : (wanted.len ≡ 0) × (from.len ≡ 0) = elim (or_true (is_number wanted && is_number from) (is_one_triple wanted && is_arithmetic from) h) [
+      | inl x ↦ let p = and_parts (is_number wanted) (is_number from) x in (short_number wanted (p.0), short_number from (p.1))
+      | inr y ↦ let p = and_parts (is_one_triple wanted) (is_arithmetic from) y in (short_triple wanted (p.0), short_arithmetic from (p.1))
+    ] in
+    let t = only_base wanted (short.0) in
+    let f = only_base from (short.1) in
+    (λ i. takes (conversion_of (t i) (f i)) (t i) (Some (f i ∷ []))) ∙ implied _ _ (each_base (conversion_fits wanted.base) (each_base (λ a. list_all (conversion_fits a) bases) conversions_fit wanted.base) from.base) ((λ i. is_convertible (sym t i) (sym f i)) ∙ h)
