@@ -7,7 +7,7 @@ use Rattle.osl_overload.specs.declared.signature.Formal.{Formal}
 use Rattle.osl_overload.specs.declared.signature.Kind.{Kind}
 use Rattle.osl_typed.specs.declared.expr.Root.{Root}
 use Rattle.osl_typed.specs.declared.expr.Part.{Part}
-use Rattle.osl_typed.specs.declared.expr.Step.{Step}
+use Rattle.osl_typed.specs.declared.expr.Increment.{Increment}
 use Rattle.osl_typed.specs.declared.expr.TypedExpr.{TypedExpr}
 use Rattle.osl_typed.specs.declared.expr.TypedExpr.TheVariants as e
 use Rattle.osl_typed.specs.declared.expr.Argument.{Argument}
@@ -94,7 +94,7 @@ kinded-Update rules op ty root part indices a =
     ap (fold-TypedExpr (Option Formal) (Option Kind) (argument_step rules) (kind_step rules)) (sym (e.rolls-Update op ty root part indices a))
     ∙ fold-roll-TypedExpr (Option Formal) (Option Kind) (argument_step rules) (kind_step rules) (node.Update op ty root part indices a)
 
-pub kinded-Step : (rules : Rules) (step : Step) (ty : Ty) (root : Root) → kinded rules (e.Step step ty root) ≡ kind_step rules (node.Step step ty root)
+pub kinded-Step : (rules : Rules) (step : Increment) (ty : Ty) (root : Root) → kinded rules (e.Step step ty root) ≡ kind_step rules (node.Step step ty root)
 unfolding kinded passed_kind
 kinded-Step rules step ty root =
     ap (fold-TypedExpr (Option Formal) (Option Kind) (argument_step rules) (kind_step rules)) (sym (e.rolls-Step step ty root))

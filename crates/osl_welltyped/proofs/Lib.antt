@@ -7,3 +7,5 @@ pub mod Agreement
 pub mod Suffixes
 pub mod TypeTables
 pub mod OperatorsFit
+pub mod Assignments
+pub mod Constructors

@@ -7,7 +7,7 @@ use Rattle.osl_overload.specs.declared.signature.Formal.{Formal}
 use Rattle.osl_overload.specs.declared.signature.Kind.{Kind}
 use Rattle.osl_typed.specs.declared.expr.Root.{Root}
 use Rattle.osl_typed.specs.declared.expr.Part.{Part}
-use Rattle.osl_typed.specs.declared.expr.Step.{Step}
+use Rattle.osl_typed.specs.declared.expr.Increment.{Increment}
 use Rattle.osl_typed.specs.declared.expr.TypedExpr.{TypedExpr}
 use Rattle.osl_typed.specs.declared.expr.TypedExpr.TheVariants as e
 use Rattle.osl_typed.specs.declared.expr.Argument.{Argument}
@@ -94,7 +94,7 @@ measured-Update m op ty root part indices a =
     ap (fold-TypedExpr ℕ ℕ (measure_passed m) (measure_step m)) (sym (e.rolls-Update op ty root part indices a))
     ∙ fold-roll-TypedExpr ℕ ℕ (measure_passed m) (measure_step m) (node.Update op ty root part indices a)
 
-pub measured-Step : (m : Measure) (step : Step) (ty : Ty) (root : Root) → measured m (e.Step step ty root) ≡ measure_step m (node.Step step ty root)
+pub measured-Step : (m : Measure) (step : Increment) (ty : Ty) (root : Root) → measured m (e.Step step ty root) ≡ measure_step m (node.Step step ty root)
 unfolding measured argument_measured
 measured-Step m step ty root =
     ap (fold-TypedExpr ℕ ℕ (measure_passed m) (measure_step m)) (sym (e.rolls-Step step ty root))

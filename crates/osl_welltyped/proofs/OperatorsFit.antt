@@ -21,7 +21,7 @@ use Rattle.osl_tree.specs.declared.expr.PrefixOp.{PrefixOp}
 use Rattle.osl_tree.specs.declared.expr.PrefixOp.TheVariants as before
 use Rattle.osl_typed.specs.declared.expr.Part.{Part}
 use Rattle.osl_typed.specs.declared.expr.Root.{Root}
-use Rattle.osl_typed.specs.declared.expr.Step.{Step}
+use Rattle.osl_typed.specs.declared.expr.Increment.{Increment}
 use Rattle.osl_typed.specs.declared.expr.TypedExpr.{TypedExpr}
 use Rattle.osl_typed.specs.declared.expr.TypedExpr.TheVariants as e
 use Rattle.osl_typed.specs.declared.found.Form.{Form}
@@ -124,7 +124,7 @@ whole_kind rules root part kind fields none bare from led t =
     let b = pair_same part.kind kind false false (sym (whole_told part.kind) ∙ ap (λ c. told part.kind 0 c) (sym bare) ∙ t) in
     a ∙ b.0
 
-stepped_fits : (rules : Rules) (step : Step) (a c : Found) → FoundFits rules a → stepped step a ≡ Some c → FoundFits rules c
+stepped_fits : (rules : Rules) (step : Increment) (a c : Found) → FoundFits rules a → stepped step a ≡ Some c → FoundFits rules c
 stepped_fits rules step a c fa h =
     let b = bound (expression a) _ c h in
     let ty = bound (plain_type b.value.kind) _ c b.goes in
