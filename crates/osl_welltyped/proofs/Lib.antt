@@ -9,3 +9,6 @@ pub mod TypeTables
 pub mod OperatorsFit
 pub mod Assignments
 pub mod Constructors
+pub mod BuiltInsFit
+pub mod CallsFit
+pub mod ExpressionsFit
