@@ -30,7 +30,7 @@ use Rattle.osl_typed.specs.Operators.{int}
 use Rattle.osl_typed.specs.Scopes.{Candidate, Sight}
 use Rattle.osl_typed.specs.Typing.{◌>>=◌, when, sequence, expression, as_argument, root_of, target_form, pass_to, pass_all, fit, fit_all, formal_kinds, plain_type, operation_call, called_as, longest, kinds_of, candidates, call}
 use Rattle.osl_welltyped.specs.Kinded.{Rules, takes, plain_types, passes, call_fits, formal_of, only_if, is_alike, kinded, passed_kind}
-use Rattle.osl_welltyped.proofs.Agreement.{IsDeclared, SightFits}
+use Rattle.osl_welltyped.specs.Agreement.{IsDeclared, SightFits}
 use Rattle.osl_welltyped.proofs.Assignments.{TargetFits, target_fits}
 use Rattle.osl_welltyped.proofs.BuiltInsFit.{kinds_taken, result_fits, callee_fits, built_in_fits}
 use Rattle.osl_welltyped.proofs.Constructors.{AllFit, AllStand, all_stand}
@@ -145,7 +145,7 @@ operation_fits rules name c args more d s table h =
 
 -- ---- calls
 
-append_none : {X : Type 0} (xs : List X) → xs ++ [] ≡ xs
+pub append_none : {X : Type 0} (xs : List X) → xs ++ [] ≡ xs
 append_none [] = refl
 append_none (x ∷ xs) = ap (λ ys. x ∷ ys) (append_none xs)
 

@@ -17,7 +17,7 @@ use Rattle.osl_typed.specs.Operators.{int, float}
 use Rattle.osl_typed.specs.Scopes.{Sight}
 use Rattle.osl_typed.specs.Typing.{◌>>=◌, sequence, int_literal, expression, tree_of, typing_step, found_form, typing, call, construct, index, field, postfixed, prefixed, cast, binary, choice, assign}
 use Rattle.osl_welltyped.specs.Kinded.{Rules, kinded}
-use Rattle.osl_welltyped.proofs.Agreement.{SightFits, NamesFit}
+use Rattle.osl_welltyped.specs.Agreement.{SightFits, NamesFit}
 use Rattle.osl_welltyped.proofs.Assignments.{assign_fits}
 use Rattle.osl_welltyped.proofs.CallsFit.{call_keeps}
 use Rattle.osl_welltyped.proofs.Constructors.{AllFit, construct_fits}

@@ -3,7 +3,6 @@ pub mod KindedLaws
 pub mod MeasureLaws
 pub mod Reached
 pub mod FoundFits
-pub mod Agreement
 pub mod Suffixes
 pub mod TypeTables
 pub mod OperatorsFit
@@ -12,3 +11,6 @@ pub mod Constructors
 pub mod BuiltInsFit
 pub mod CallsFit
 pub mod ExpressionsFit
+pub mod KindsTold
+pub mod StatementNodes
+pub mod BodiesFit

@@ -25,7 +25,7 @@ use Rattle.osl_typed.specs.Scopes.{look, field_named, FieldName, StructureName, 
 use Rattle.osl_typed.specs.FileTyping.{kinds_of_fields}
 use Rattle.osl_typed.specs.Typing.{◌>>=◌, when, name, index, field, expression, tree_of, indexed_type, indexed_kind, with_index, with_component, with_component_in, with_field, with_field_in, component_of, component_in, selected_by, fields_of_structure, found, whole_of}
 use Rattle.osl_welltyped.specs.Kinded.{Rules, is_int, led_to, component_fits, root_kind, kinded}
-use Rattle.osl_welltyped.proofs.Agreement.{IsBound, SightFits, NamesFit}
+use Rattle.osl_welltyped.specs.Agreement.{IsBound, SightFits, NamesFit}
 use Rattle.osl_welltyped.proofs.FoundFits.{FoundFits, FormFits, PlaceFits, PieceFits, WholeFits, Leads, AreInts, told, named, whole_only, pair_same, tree_fits, if_some}
 use Rattle.osl_welltyped.proofs.Reached.{reached, reached_more}
 use Rattle.osl_welltyped.proofs.Steps.{none_is_not, some_same, bound, held, same_kind-true}

@@ -3,3 +3,4 @@ pub mod Kinded
 pub mod StatementsFit
 pub mod Measures
 pub mod WellTyped
+pub mod Agreement

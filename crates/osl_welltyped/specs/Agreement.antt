@@ -1,5 +1,5 @@
 -- What expressions see by typing, against the rules of well formed trees.
-use Rattle.std.proofs.Common.{◌≡◌, ℕ, true, List, ◌∷◌, Option, Some, slice_get}
+use Rattle.std.specs.Prelude.{◌≡◌, ℕ, true, List, Some, slice_get}
 use Rattle.osl_typed.specs.declared.found.Binding.{Binding}
 use Rattle.osl_typed.specs.declared.found.Callee.TheVariants.{Declared}
 use Rattle.osl_typed.specs.declared.shader.TypedFunction.{TypedFunction}
