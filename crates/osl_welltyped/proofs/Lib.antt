@@ -14,3 +14,4 @@ pub mod ExpressionsFit
 pub mod KindsTold
 pub mod StatementNodes
 pub mod BodiesFit
+pub mod StatementsKeep
