@@ -1,10 +1,17 @@
 -- Initialisers, declarations and statements: what is typed fits the rules, declares what the frame gains, and keeps the names.
-use Rattle.std.proofs.Common.{◌≡◌, ℕ, zero, suc, ◌+◌, ◌≤◌, Bool, true, false, not, ◌&&◌, List, [], ◌∷◌, ◌++◌, flat_map, length, map, replicate, nat_le, Option, Some, None, refl, sym, ap, ◌∙◌, subst, arith, append_assoc, length-append}
-use Rattle.std.specs.Prelude.{if◌then◌else◌, ◌==◌, slice_get, bytes_eq, is_some, codes}
+use Rattle.std.proofs.Common.{◌≡◌, ℕ, zero, suc, ◌+◌, ◌<◌, ◌≤◌, Bool, true, false, not, ◌&&◌, List, [], ◌∷◌, ◌++◌, flat_map, length, map, replicate, nat_le, Option, Some, None, refl, sym, ap, ◌∙◌, subst, arith, append_assoc, length-append}
+use Rattle.std.specs.Prelude.{if◌then◌else◌, ◌==◌, slice_get, bytes_eq, nat_lt, ℤ, pos, negsuc}
 use Rattle.std.specs.List.{list_all}
-use Rattle.std.proofs.lemmas.Bool.{false≢true, and_from, and_parts, eq-eqb, le-leb, leb-true}
+use Rattle.std.proofs.lemmas.Bool.{false≢true, and_from, and_parts, eq-eqb, le-leb, leb-true, lt-ltb}
 use Rattle.std.proofs.lemmas.List.Folds.{list_all-append}
+use Rattle.osl_value.specs.declared.types.Base.{Base}
+use Rattle.osl_value.specs.declared.types.Base.TheVariants.{Closure}
 use Rattle.osl_value.specs.declared.types.Ty.{Ty}
+use Rattle.osl_value.specs.Types.{only, same_base, longest_array}
+use Rattle.osl_tree.specs.declared.expr.BaseType.{BaseType}
+use Rattle.osl_tree.specs.declared.expr.BaseType.TheVariants as bases
+use Rattle.osl_tree.specs.declared.stmt.TypeName.TheVariants as types
+use Rattle.osl_typed.specs.Operators.{base_named}
 use Rattle.osl_value.specs.AnyValue.{is_array, element_type}
 use Rattle.osl_overload.specs.Kinds.{same_kind}
 use Rattle.osl_overload.specs.declared.signature.Kind.{Kind}
@@ -24,16 +31,16 @@ use Rattle.osl_typed.specs.declared.stmt.TypedInit.TheVariants as init
 use Rattle.osl_typed.specs.declared.shader.TypedStructure.{TypedStructure}
 use Rattle.osl_typed.specs.Frames.{fields_of}
 use Rattle.osl_typed.specs.FileTyping.{kinds_of_fields}
-use Rattle.osl_typed.specs.Scopes.{Scope, Sight, FieldName, StructureName, look, is_here, with_variable}
+use Rattle.osl_typed.specs.Scopes.{Scope, Sight, FieldName, StructureName, look, is_here, with_variable, structure_named}
 use Rattle.osl_typed.specs.Typing.{◌>>=◌, when, sequence, typing, fit, tree_of, fields_of_structure}
-use Rattle.osl_typed.specs.BodyTyping.{declared_kind, listed_kinds, fit_first, begun, maybe_begun, declare, declare_all}
+use Rattle.osl_typed.specs.BodyTyping.{array_kind, declared_kind, listed_kinds, fit_first, begun, maybe_begun, declare, declare_all}
 use Rattle.osl_welltyped.specs.Agreement.{IsBound, SightFits, NamesFit}
-use Rattle.osl_welltyped.specs.Kinded.{Rules, is_kind, root_kind, kinded}
+use Rattle.osl_welltyped.specs.Kinded.{Rules, is_type, is_kind, root_kind, kinded}
 use Rattle.osl_welltyped.specs.StatementsFit.{has_kind, items_fit, list_fits, init_fits, maybe_fits, declared_fits, are_numbered}
 use Rattle.osl_welltyped.specs.WellTyped.{kinds_declared}
 use Rattle.osl_welltyped.proofs.ExpressionsFit.{typing_stands}
 use Rattle.osl_welltyped.proofs.CallsFit.{append_none}
-use Rattle.osl_welltyped.proofs.FoundFits.{fit_kinded, three}
+use Rattle.osl_welltyped.proofs.FoundFits.{fit_kinded, three, three_parts}
 use Rattle.osl_welltyped.proofs.OperatorsFit.{Stands}
 use Rattle.osl_welltyped.proofs.Steps.{none_is_not, some_same, bound, held, kind_is}
 
@@ -119,6 +126,60 @@ maybe_fit rules sight scope seen names kind (Some x) y h =
     let b = bound (begun sight scope kind x) _ y h in
     ap (maybe_fits rules kind) (sym (some_same _ y b.goes)) ∙ begun_fits rules sight scope seen names kind x b.value b.was
 
+-- ---- kinds of declarations
+
+-- the kind of a variable, where so many structures are known
+abbrev pub kind_below : ℕ → Kind → Bool
+kind_below n (Value ty) = is_type ty
+kind_below n (Structure m) = nat_lt m n
+kind_below n Void = false
+
+no_closure : (c z : Bool) → not c ≡ true → not (c && not z) ≡ true
+no_closure true z h = absurd (false≢true h)
+no_closure false z h = refl
+
+lt_is : (m n : ℕ) → m < n → nat_lt m n ≡ true
+lt_is m n h = lt-ltb m n h
+
+named_below : (at : ℕ) (xs : List StructureName) (name : List ℕ) (m : ℕ) → structure_named at xs name ≡ Some m → m < at + length xs
+unfolding structure_named
+named_below at [] name m h = none_is_not m h
+named_below at (x ∷ xs) name m h =
+    (elim (bytes_eq x.name name) as (λ t. (if t then Some at else structure_named (at + 1) xs name) ≡ Some m → m < at + suc (length xs)) [
+      | true ↦ λ g. let e : at ≡ m = some_same at m g in omega arith
+      | false ↦ λ g. let r = named_below (at + 1) xs name m g in omega arith
+    ]) h
+
+array_type : (base : Base) (n : ℤ) (kind : Kind) → array_kind base n ≡ Some kind → (count : ℕ) → kind_below count kind ≡ true
+array_type base (pos n) kind h count =
+    (elim (nat_le 1 n && nat_le n longest_array && not (same_base base Closure)) as (λ t. (nat_le 1 n && nat_le n longest_array && not (same_base base Closure)) ≡ t → (if t then Some (Value (record { base = base; len = n })) else None) ≡ Some kind → kind_below count kind ≡ true) [
+      | true ↦ λ is g. let p = three_parts (nat_le 1 n) (nat_le n longest_array) (not (same_base base Closure)) is in
+        ap (kind_below count) (sym (some_same _ kind g)) ∙ and_from _ _ (p.1) (no_closure (same_base base Closure) (n == 0) (p.2))
+      | false ↦ λ is g. none_is_not kind g
+    ]) refl h
+array_type base (negsuc n) kind h count = none_is_not kind h
+
+alone_type : (to : BaseType) (count : ℕ) → kind_below count (Value (only (base_named to))) ≡ true
+alone_type bases.Int count = refl
+alone_type bases.Float count = refl
+alone_type bases.Color count = refl
+alone_type bases.Point count = refl
+alone_type bases.Vector count = refl
+alone_type bases.Normal count = refl
+alone_type bases.Matrix count = refl
+alone_type bases.Str count = refl
+alone_type bases.Closure count = refl
+
+pub declared_below : (structures : List StructureName) (type : TypeName) (len : Option ℤ) (kind : Kind) → declared_kind structures type len ≡ Some kind → kind_below (length structures) kind ≡ true
+declared_below structures (types.Base base) None kind h = ap (kind_below (length structures)) (sym (some_same _ kind h)) ∙ alone_type base (length structures)
+declared_below structures (types.Base base) (Some n) kind h = array_type (base_named base) n kind h (length structures)
+declared_below structures (types.Struct word) None kind h =
+    let m = bound (structure_named 0 structures word) _ kind h in
+    let b = named_below 0 structures word m.value m.was in
+    let z : 0 + length structures ≡ length structures = omega arith in
+    ap (kind_below (length structures)) (sym (some_same _ kind m.goes)) ∙ lt_is m.value (length structures) (omega arith)
+declared_below structures (types.Struct word) (Some n) kind h = none_is_not kind h
+
 -- ---- what a scope gains
 
 -- the frame of the rules has these variables
@@ -139,6 +200,7 @@ pub record Sees (rules : Rules) (sight : Sight) (scope : Scope) (kinds : List Ki
 pub record Grows (sight : Sight) (scope : Scope) (ds : List Declared) (after : Scope) (test : Rules → Bool) : Type 0 where
   pub kinds : after.kinds ≡ scope.kinds ++ kinds_declared ds
   pub numbers : are_numbered (length scope.kinds) ds ≡ true
+  pub sound : list_all (kind_below (length sight.structures)) (kinds_declared ds) ≡ true
   pub fits : (rules : Rules) → Sees rules sight scope after.kinds → (test rules ≡ true) × NamesFit rules after.bindings
 
 pub at_end : {X : Type 0} (xs : List X) (x : X) → slice_get (xs ++ x ∷ []) (length xs) ≡ Some x
@@ -176,6 +238,7 @@ one_declared sight type v scope r h =
       (record {
         kinds = refl;
         numbers = and_from _ _ (eq-eqb (length scope.kinds) (length scope.kinds) refl) refl;
+        sound = and_from _ _ (declared_below sight.structures type v.item.len kind.value kind.was) refl;
         fits = λ rules s. (
           and_from _ _ (kind_is kind.value _ (s.holds (length scope.kinds) kind.value (at_end scope.kinds kind.value))) (maybe_fit rules sight scope s.sees s.names kind.value v.init x.value x.was),
           with_name rules v.item.name kind.value true scope s.names s.holds (λ is. s.fresh (length scope.kinds) (omega arith))
@@ -205,6 +268,7 @@ grows_then sight scope mid after ds es p q a b =
     record {
       kinds = b.kinds ∙ ap (λ ks. ks ++ kinds_declared es) a.kinds ∙ append_assoc scope.kinds (kinds_declared ds) (kinds_declared es) ∙ ap (λ ks. scope.kinds ++ ks) (sym (map_both (λ d. d.kind) ds es));
       numbers = numbered_both (length scope.kinds) ds es a.numbers (ap (λ n. are_numbered n es) (sym grown) ∙ b.numbers);
+      sound = ap (list_all (kind_below (length sight.structures))) (map_both (λ d. d.kind) ds es) ∙ list_all-append (kind_below (length sight.structures)) (kinds_declared ds) (kinds_declared es) ∙ and_from _ _ a.sound b.sound;
       fits = λ rules s.
         let first = a.fits rules (record { sees = s.sees; names = s.names; fresh = s.fresh; holds = extends_front rules mid.kinds (kinds_declared es) after.kinds b.kinds s.holds }) in
         let second = b.fits rules (record { sees = s.sees; names = first.1; fresh = λ k le. s.fresh k (omega arith); holds = s.holds }) in
@@ -212,12 +276,13 @@ grows_then sight scope mid after ds es p q a b =
     }
 
 pub grows_none : (sight : Sight) (scope : Scope) (p : Rules → Bool) → ((rules : Rules) → Sees rules sight scope scope.kinds → p rules ≡ true) → Grows sight scope [] scope p
-grows_none sight scope p h = record { kinds = sym (append_none scope.kinds); numbers = refl; fits = λ rules s. (h rules s, s.names) }
+grows_none sight scope p h = record { kinds = sym (append_none scope.kinds); numbers = refl; sound = refl; fits = λ rules s. (h rules s, s.names) }
 
 pub grows_as : (sight : Sight) (scope after : Scope) (ds es : List Declared) (p q : Rules → Bool) → es ≡ ds → ((rules : Rules) → p rules ≡ true → q rules ≡ true) → Grows sight scope ds after p → Grows sight scope es after q
 grows_as sight scope after ds es p q is so g = record {
   kinds = g.kinds ∙ ap (λ (l : List Declared). scope.kinds ++ kinds_declared l) (sym is);
   numbers = ap (are_numbered (length scope.kinds)) is ∙ g.numbers;
+  sound = ap (λ (l : List Declared). list_all (kind_below (length sight.structures)) (kinds_declared l)) is ∙ g.sound;
   fits = λ rules s. let f = g.fits rules s in (so rules (f.0), f.1);
 }
 

@@ -156,7 +156,7 @@ built_in_called rules SubstrToEnd c args d s table h =
     operation_fits rules op.SubStr c args (longest ∷ []) d s (ap (λ o. result_fits op.SubStr c.signature.result (kinds_taken c.signature.params ++ o ∷ [])) (kinded-Int rules _) ∙ table) h
 built_in_called rules Exit c args d s table h = subst (FoundFits rules) (some_same _ d h) (value_fits rules e.Exit Void (kinded-Exit rules))
 
-declared_called : (rules : Rules) (c : Candidate) (args : List Found) (d : Found) → AllStand rules args → HasCost c.signature.params args → IsDeclared rules c → called_as c.callee c args ≡ Some d → FoundFits rules d
+declared_called : (rules : Rules) (c : Candidate) (args : List Found) (d : Found) → AllStand rules args → HasCost c.signature.params args → IsDeclared rules.functions c → called_as c.callee c args ≡ Some d → FoundFits rules d
 declared_called rules c args d s costs declared h =
     let xs = bound (pass_all c.signature.params args) _ d (sym (ap (λ callee. called_as callee c args) declared.callee) ∙ h) in
     let all = passes_all rules c.signature.params args xs.value s costs xs.was in

@@ -39,6 +39,7 @@ pub grows_inside : (sight : Sight) (scope inner : Scope) (ds : List Declared) (p
 grows_inside sight scope inner ds p g = record {
   kinds = g.kinds;
   numbers = g.numbers;
+  sound = g.sound;
   fits = λ rules s. ((g.fits rules (record { sees = s.sees; names = s.names; fresh = s.fresh; holds = s.holds })).0, s.names);
 }
 

@@ -1,6 +1,5 @@
 -- How high typed trees are, and which literals they hold: the greatest that a measure finds in a tree.
 use Rattle.std.specs.Prelude.{ℕ, ◌+◌, ◌^◌, max, nat_lt, nat_le, Bool, if◌then◌else◌, ℤ, pos, negsuc, unsigned_abs, List, [], ◌∷◌, length, map, Option, None, Some}
-use Rattle.std.specs.List.{list_all}
 use Rattle.osl_value.specs.Numbers.{fmax}
 use Rattle.osl_typed.specs.declared.expr.TypedExpr.{TypedExpr}
 use Rattle.osl_typed.specs.declared.expr.Argument.{Argument}
@@ -40,18 +39,15 @@ fits_int (negsuc n) = nat_lt n (2 ^ 31)
 abbrev pub fits_float : ℤ → Bool
 fits_float units = nat_le (unsigned_abs units) fmax
 
-abbrev pub are_bytes : List ℕ → Bool
-are_bytes bytes = list_all (λ c. nat_lt c 256) bytes
-
 abbrev pub fault_unless : Bool → ℕ
 fault_unless fits = if fits then 0 else 1
 
--- 1 where an int, a float or a byte of a string is out of its range
+-- 1 where an int or a float is out of its range
 abbrev pub by_fault : Measure
 by_fault = record {
   int = λ n. fault_unless (fits_int n);
   float = λ units. fault_unless (fits_float units);
-  text = λ bytes. fault_unless (are_bytes bytes);
+  text = λ bytes. 0;
   leaf = 0;
   node = λ n. n;
 }

@@ -211,5 +211,5 @@ pub record IsWellTyped (t : TypedShader) : Type 0 where
   pub heights : IsWithin by_height max_height t
   -- strings are no longer than the longest
   pub texts : IsWithin by_text t.longest_text t
-  -- ints, floats and the bytes of strings are in range
+  -- ints and floats are in range
   pub numbers : IsWithin by_fault 0 t
