@@ -90,7 +90,7 @@ FormalsTyped inner at (f ∷ fs) =
 abbrev pub types_of_formals : Body → List Formal → List (List Ty)
 types_of_formals inner formals = map (λ f. leaves_of inner.structures f.kind) formals
 
-leaves_typed : (vars : ℕ → AnyValue) (at : ℕ) (types : List Ty) → ((k : ℕ) (ty : Ty) → slice_get types k ≡ Some ty → type_of (vars (at + k)) ≡ ty) → map type_of (leaves_at vars at (length types)) ≡ types
+pub leaves_typed : (vars : ℕ → AnyValue) (at : ℕ) (types : List Ty) → ((k : ℕ) (ty : Ty) → slice_get types k ≡ Some ty → type_of (vars (at + k)) ≡ ty) → map type_of (leaves_at vars at (length types)) ≡ types
 unfolding leaves_at
 leaves_typed vars at [] h = refl
 leaves_typed vars at (t ∷ types) h =

@@ -117,15 +117,15 @@ list_none b ops0 syms0 =
       };
     }
 
-within_snoc : (b : Body) (hi hi1 : ℕ) (ps : List Place) (p : Place) → hi ≤ hi1 → p.first + length p.types ≤ hi1 → ((k : ℕ) → k < length p.types → IsOwn b (p.first + k)) → AllWithin b hi ps → AllWithin b hi1 (ps ++ p ∷ [])
+pub within_snoc : (b : Body) (hi hi1 : ℕ) (ps : List Place) (p : Place) → hi ≤ hi1 → p.first + length p.types ≤ hi1 → ((k : ℕ) → k < length p.types → IsOwn b (p.first + k)) → AllWithin b hi ps → AllWithin b hi1 (ps ++ p ∷ [])
 within_snoc b hi hi1 [] p le h own w = (h, own, tt)
 within_snoc b hi hi1 (q ∷ ps) p le h own w = let w0 = w.0 in (omega (arith, w0, le), w.1, within_snoc b hi hi1 ps p le h own w.2)
 
-typed_snoc : (syms syms1 : List Symbol) (ps : List Place) (p : Place) → Extends syms syms1 → AllTyped syms ps → HaveTypes syms1 p.first p.types → AllTyped syms1 (ps ++ p ∷ [])
+pub typed_snoc : (syms syms1 : List Symbol) (ps : List Place) (p : Place) → Extends syms syms1 → AllTyped syms ps → HaveTypes syms1 p.first p.types → AllTyped syms1 (ps ++ p ∷ [])
 typed_snoc syms syms1 [] p e all h = (h, tt)
 typed_snoc syms syms1 (q ∷ ps) p e all h = (types_later syms syms1 q.first q.types e all.0, typed_snoc syms syms1 ps p e all.1 h)
 
-in_snoc : (ps : List Place) (p : Place) (vss : List (List AnyValue)) (vs : List AnyValue) (x : R.State) → AllIn ps vss x → In p.first p.types vs x → AllIn (ps ++ p ∷ []) (vss ++ vs ∷ []) x
+pub in_snoc : (ps : List Place) (p : Place) (vss : List (List AnyValue)) (vs : List AnyValue) (x : R.State) → AllIn ps vss x → In p.first p.types vs x → AllIn (ps ++ p ∷ []) (vss ++ vs ∷ []) x
 in_snoc [] p [] vs x all h = (h, tt)
 in_snoc [] p (ws ∷ vss) vs x all h = absurd all
 in_snoc (q ∷ ps) p [] vs x all h = absurd all

@@ -127,7 +127,7 @@ abbrev pub IndicesSafe : Body → ℕ → List ArgPlace → Type 0
 IndicesSafe b n [] = Unit {0}
 IndicesSafe b n (p ∷ ps) = AllSafe b n p.indices × IndicesSafe b n ps
 
-safe_values : (b : Body) (n : ℕ) (rs : List ℕ) (x y : R.State) → Kept b n x y → AllSafe b n rs → map y.values rs ≡ map x.values rs
+pub safe_values : (b : Body) (n : ℕ) (rs : List ℕ) (x y : R.State) → Kept b n x y → AllSafe b n rs → map y.values rs ≡ map x.values rs
 safe_values b n [] x y kept all = refl
 safe_values b n (r ∷ rs) x y kept all = ap (λ v. v ∷ map y.values rs) (kept.keeps r all.0 all.1) ∙ ap (λ l. x.values r ∷ l) (safe_values b n rs x y kept all.2)
 

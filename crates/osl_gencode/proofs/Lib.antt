@@ -30,3 +30,8 @@ pub mod OrNode
 pub mod ChooseNode
 pub mod Statements
 pub mod LoopNodes
+pub mod CalmCode
+pub mod TargetOps
+pub mod Updates
+pub mod ArgumentLists
+pub mod StructureValues

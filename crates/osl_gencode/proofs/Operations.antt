@@ -37,7 +37,7 @@ AllSingle (p ∷ ps) = (length p.types ≡ 1) × AllSingle ps
 abbrev pub firsts : List Place → List ℕ
 firsts ps = map (λ p. p.first) ps
 
-single_value : (r : ℕ) (types : List Ty) (vs : List AnyValue) (x : R.State) → length types ≡ 1 → In r types vs x → x.values r ≡ single vs
+pub single_value : (r : ℕ) (types : List Ty) (vs : List AnyValue) (x : R.State) → length types ≡ 1 → In r types vs x → x.values r ≡ single vs
 single_value r types [] x one p = let e = ap length p.typed in absurd (omega (arith, e, one))
 single_value r types (v ∷ vs) x one p = one_value r types v vs x p
 
