@@ -18,7 +18,7 @@ use Rattle.osl_welltyped.proofs.OperatorsFit.{Stands, stands, value_fits}
 use Rattle.osl_welltyped.proofs.Steps.{none_is_not, some_same, bound, held, kind_is, only_if_so}
 use Rattle.osl_welltyped.proofs.TypeTables.{goes_to, operation_updates}
 
-target_is : (form : Form) (t : Target) → target_form form ≡ Some t → form ≡ Place t.root true t.part t.indices
+pub target_is : (form : Form) (t : Target) → target_form form ≡ Some t → form ≡ Place t.root true t.part t.indices
 target_is (Place root true part indices) t h = let e : record { root = root; part = part; indices = indices } ≡ t = some_same _ t h in λ i. Place (e i).root true (e i).part (e i).indices
 target_is (Place root false part indices) t h = none_is_not t h
 target_is (Piece kind a part indices) t h = none_is_not t h

@@ -15,3 +15,7 @@ pub mod KindsTold
 pub mod StatementNodes
 pub mod BodiesFit
 pub mod StatementsKeep
+pub mod FormalsFit
+pub mod FilesFit
+pub mod ShaderFits
+pub mod Measured

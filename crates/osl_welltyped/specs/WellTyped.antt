@@ -97,52 +97,6 @@ pub record IsFunction (t : TypedShader) (n : ℕ) (f : TypedFunction) : Type 0 w
   pub frame : IsFrame t.structures (kinds_of_formals f.formals) f.frame f.body
   pub body : IsTrue (body_fits (rules_of_function t n f) f.result f.body)
 
--- ---- metadata
-
--- the operations of signs, constructors and casts
-abbrev pub makes_constants : OpName → Bool
-makes_constants Neg = true
-makes_constants Assign = true
-makes_constants ToInt = true
-makes_constants Triple = true
-makes_constants Matrix = true
-makes_constants _ = false
-
-abbrev pub constant_step : TypedExpr-F Bool Bool → Bool
-constant_step (e.Int n) = true
-constant_step (e.Float units) = true
-constant_step (e.Text bytes) = true
-constant_step (e.Promote ty a) = a
-constant_step (e.Apply op ty operands) = makes_constants op && list_all (λ operand. operand) operands
-constant_step _ = false
-
-abbrev pub constant_passed : Argument-F Bool Bool → Bool
-constant_passed (e.In a) = a
-constant_passed (e.Out root part indices) = false
-
--- literals, and what signs, constructors, casts and promotions make of them
-unfoldable pub is_constant : TypedExpr → Bool
-is_constant x = fold-TypedExpr Bool Bool constant_passed constant_step x
-
-abbrev pub is_constant_init : TypedInit → Bool
-is_constant_init (init.Expr a) = is_constant a
-is_constant_init (init.List items) = list_all is_constant items
-
--- where no variable and no function is in scope
-abbrev pub rules_of_constants : TypedShader → Rules
-rules_of_constants t = record { structures = t.structures; kinds = []; ready = 0; functions = []; may_write = λ root. false }
-
-pub record IsDatum (t : TypedShader) (datum : TypedDatum) : Type 0 where
-  pub name : IsWord datum.name
-  pub short : length datum.name ≤ t.longest_word
-  pub type : IsTrue (is_type datum.ty)
-  pub constant : IsTrue (is_constant_init datum.init)
-  pub value : IsTrue (init_fits (rules_of_constants t) (Value datum.ty) datum.init)
-  pub numbers : init_measured by_fault datum.init ≡ 0
-
-pub record AreMetadata (t : TypedShader) (metadata : List TypedDatum) : Type 0 where
-  pub each : (k : ℕ) (datum : TypedDatum) → slice_get metadata k ≡ Some datum → IsDatum t datum
-
 -- ---- the shader
 
 abbrev pub as_formal : TypedParam → Formal
@@ -180,11 +134,79 @@ names_of params = map (λ param. param.name) params
 
 -- Parameter k, whose default names earlier parameters alone. Its name is no global variable's.
 pub record IsParam (t : TypedShader) (k : ℕ) (param : TypedParam) : Type 0 where
-  pub name : IsWord param.name
-  pub short : length param.name ≤ t.longest_word
   pub free : is_reserved param.name ≡ false
   pub default : IsTrue (init_fits (rules_below t k) (Value param.ty) param.init)
-  pub metadata : AreMetadata t param.metadata
+
+-- structures, functions, parameters and the body, by the rules of kinds and scopes
+pub record FitsRules (t : TypedShader) : Type 0 where
+  pub structures : IsTrue (structures_fit 0 t.structures)
+  pub functions : (n : ℕ) (f : TypedFunction) → slice_get t.functions n ≡ Some f → IsFunction t n f
+  pub params : (k : ℕ) (param : TypedParam) → slice_get t.params k ≡ Some param → IsParam t k param
+  pub names : IsTrue (differ (names_of t.params))
+  pub frame : IsFrame t.structures (kinds_of_formals (as_formals t)) t.frame t.body
+  pub body : IsTrue (body_fits (rules_of t) Void t.body)
+
+-- ---- names
+
+-- a word of the source
+pub record IsName (t : TypedShader) (name : List ℕ) : Type 0 where
+  pub word : IsWord name
+  pub short : length name ≤ t.longest_word
+
+-- the shader and its parameters have words as names
+pub record HasNames (t : TypedShader) : Type 0 where
+  pub shader : IsName t t.name
+  pub params : (k : ℕ) (param : TypedParam) → slice_get t.params k ≡ Some param → IsName t param.name
+
+-- ---- metadata
+
+-- the operations of signs, constructors and casts
+abbrev pub makes_constants : OpName → Bool
+makes_constants Neg = true
+makes_constants Assign = true
+makes_constants ToInt = true
+makes_constants Triple = true
+makes_constants Matrix = true
+makes_constants _ = false
+
+abbrev pub constant_step : TypedExpr-F Bool Bool → Bool
+constant_step (e.Int n) = true
+constant_step (e.Float units) = true
+constant_step (e.Text bytes) = true
+constant_step (e.Promote ty a) = a
+constant_step (e.Apply op ty operands) = makes_constants op && list_all (λ operand. operand) operands
+constant_step _ = false
+
+abbrev pub constant_passed : Argument-F Bool Bool → Bool
+constant_passed (e.In a) = a
+constant_passed (e.Out root part indices) = false
+
+-- literals, and what signs, constructors, casts and promotions make of them
+unfoldable pub is_constant : TypedExpr → Bool
+is_constant x = fold-TypedExpr Bool Bool constant_passed constant_step x
+
+abbrev pub is_constant_init : TypedInit → Bool
+is_constant_init (init.Expr a) = is_constant a
+is_constant_init (init.List items) = list_all is_constant items
+
+-- where no variable and no function is in scope
+abbrev pub rules_of_constants : TypedShader → Rules
+rules_of_constants t = record { structures = t.structures; kinds = []; ready = 0; functions = []; may_write = λ root. false }
+
+pub record IsDatum (t : TypedShader) (datum : TypedDatum) : Type 0 where
+  pub name : IsName t datum.name
+  pub type : IsTrue (is_type datum.ty)
+  pub constant : IsTrue (is_constant_init datum.init)
+  pub value : IsTrue (init_fits (rules_of_constants t) (Value datum.ty) datum.init)
+  pub numbers : init_measured by_fault datum.init ≡ 0
+
+pub record AreMetadata (t : TypedShader) (metadata : List TypedDatum) : Type 0 where
+  pub each : (k : ℕ) (datum : TypedDatum) → slice_get metadata k ≡ Some datum → IsDatum t datum
+
+-- of the shader and of each parameter
+pub record HasMetadata (t : TypedShader) : Type 0 where
+  pub shader : AreMetadata t t.metadata
+  pub params : (k : ℕ) (param : TypedParam) → slice_get t.params k ≡ Some param → AreMetadata t param.metadata
 
 -- ---- heights and literals
 
@@ -195,21 +217,19 @@ pub record IsWithin (m : Measure) (limit : ℕ) (t : TypedShader) : Type 0 where
   pub params : (k : ℕ) (param : TypedParam) → slice_get t.params k ≡ Some param → init_measured m param.init ≤ limit
   pub body : body_measured m t.body ≤ limit
 
--- ---- all parts
-
-pub record IsWellTyped (t : TypedShader) : Type 0 where
-  pub structures : IsTrue (structures_fit 0 t.structures)
-  pub functions : (n : ℕ) (f : TypedFunction) → slice_get t.functions n ≡ Some f → IsFunction t n f
-  pub name : IsWord t.name
-  pub short : length t.name ≤ t.longest_word
-  pub metadata : AreMetadata t t.metadata
-  pub params : (k : ℕ) (param : TypedParam) → slice_get t.params k ≡ Some param → IsParam t k param
-  pub names : IsTrue (differ (names_of t.params))
-  pub frame : IsFrame t.structures (kinds_of_formals (as_formals t)) t.frame t.body
-  pub body : IsTrue (body_fits (rules_of t) Void t.body)
-  -- each body and each default is no higher than a source
+-- bodies and defaults have bounds
+pub record IsBounded (t : TypedShader) : Type 0 where
+  -- each is no higher than a source
   pub heights : IsWithin by_height max_height t
   -- strings are no longer than the longest
   pub texts : IsWithin by_text t.longest_text t
   -- ints and floats are in range
   pub numbers : IsWithin by_fault 0 t
+
+-- ---- all parts
+
+pub record IsWellTyped (t : TypedShader) : Type 0 where
+  pub rules : FitsRules t
+  pub names : HasNames t
+  pub metadata : HasMetadata t
+  pub bounds : IsBounded t
