@@ -19,3 +19,5 @@ pub mod FormalsFit
 pub mod FilesFit
 pub mod ShaderFits
 pub mod Measured
+pub mod MeasuredBodies
+pub mod GrammarLow
