@@ -3,7 +3,8 @@
 //! Each command is read by clap, whose stated functions say which words it accepts and what they mean. A command's usage
 //! is defined in a file of its own in `specs/`, and `job_of`, in `specs/Words.antt`, finds the usage that the first word
 //! names. A further command is one more usage in its list, one more arm in `read_words`, and one more word in
-//! `proofs/read_words/Answers.antt`: that a name for which no arm is meant is not the command's.
+//! `proofs/read_words/Answers.antt`: that a name for which no arm is meant is not the command's. `laws` says which jobs are
+//! serial, and in which ranges a job's numbers are.
 #![tactic(auto)]
 
 ghost use Rattle.std.specs.Prelude.{◌≡◌, IfOk, map, string_bytes};
@@ -15,6 +16,7 @@ use std::alloc::Global;
 mod arguments;
 mod demo;
 pub mod job;
+pub mod laws;
 mod oslc;
 mod shade;
 
