@@ -35,3 +35,5 @@ pub mod TargetOps
 pub mod Updates
 pub mod ArgumentLists
 pub mod StructureValues
+pub mod LayerStart
+pub mod LayerResults
