@@ -37,3 +37,4 @@ pub mod ArgumentLists
 pub mod StructureValues
 pub mod LayerStart
 pub mod LayerResults
+pub mod LayerCode

@@ -5,3 +5,4 @@ pub mod RunEnds
 pub mod Codes
 pub mod PartCodes
 pub mod CallCodes
+pub mod StandsFor
