@@ -166,13 +166,13 @@ module _ (m : Measure) (is : IsMeasure m) (top : ℕ → ℕ) (b : IsHeightBound
     pub low : x ≤ top h
 
   -- a node over parts of a height
-  node_at : (x y h : ℕ) → x ≡ m.node y → 1 ≤ h → y ≤ top h → LowAt x (h + 1)
+  pub node_at : (x y h : ℕ) → x ≡ m.node y → 1 ≤ h → y ≤ top h → LowAt x (h + 1)
   node_at x y h same some low = record { some = omega arith; low = let n = b.node h some in let k = is.more y (top h) low in omega arith }
 
-  leaf_at : (x : ℕ) → x ≤ top 1 → LowAt x 1
+  pub leaf_at : (x : ℕ) → x ≤ top 1 → LowAt x 1
   leaf_at x low = record { some = omega arith; low = low }
 
-  up : (x h k : ℕ) → LowAt x h → h ≤ k → x ≤ top k
+  pub up : (x h k : ℕ) → LowAt x h → h ≤ k → x ≤ top k
   up x h k l le = let p = b.more h k le in let q = l.low in omega arith
 
   -- ---- expressions
@@ -183,15 +183,15 @@ module _ (m : Measure) (is : IsMeasure m) (top : ℕ → ℕ) (b : IsHeightBound
   abbrev L : List Lexeme → Type 0
   L a = LiteralsLow m (top 1) a
 
-  base_some : (to : BaseType) (a : List Lexeme) (h : ℕ) → IsBase to a h → 1 ≤ h
+  pub base_some : (to : BaseType) (a : List Lexeme) (h : ℕ) → IsBase to a h → 1 ≤ h
   base_some to a h (g.of_one_word terminal t is) = omega arith
   base_some to a h g.closure = omega arith
 
-  two_at : (x y h i : ℕ) → LowAt x h → LowAt y i → max x y ≤ top (max h i)
+  pub two_at : (x y h i : ℕ) → LowAt x h → LowAt y i → max x y ≤ top (max h i)
   two_at x y h i u v = let p = up x h (max h i) u (omega arith) in let q = up y i (max h i) v (omega arith) in omega arith
 
   mutual
-    expr_low : (k : ℕ) (x : Expr) (a : List Lexeme) (h : ℕ) → IsExpr k x a h → L a → LowAt (sm x) h
+    pub expr_low : (k : ℕ) (x : Expr) (a : List Lexeme) (h : ℕ) → IsExpr k x a h → L a → LowAt (sm x) h
     expr_low k x a h (g.unary d) t = unary_low x a h d t
     expr_low k z d n (g.binary {h = h} {i = i} {x = x} {y = y} {a = a} {b = c} terminal p is lv u v) t =
         let f = expr_low (level p) x a h u (low_left m (top 1) a (l.terminal terminal ∷ c) t) in
@@ -250,7 +250,7 @@ module _ (m : Measure) (is : IsMeasure m) (top : ℕ → ℕ) (b : IsHeightBound
     arguments_low xs a h g.none t = record { some = omega arith; low = omega arith }
     arguments_low xs d n (g.some {h = h} {xs = ys} {a = a} u) t = exprs_low ys a h u (low_left m (top 1) a (sign p.CloseParen ∷ []) (t.1))
 
-    exprs_low : (xs : List Expr) (a : List Lexeme) (h : ℕ) → AreExprs xs a h → L a → LowAt (greatest_of (map (source_measured m) xs)) h
+    pub exprs_low : (xs : List Expr) (a : List Lexeme) (h : ℕ) → AreExprs xs a h → L a → LowAt (greatest_of (map (source_measured m) xs)) h
     exprs_low xs a h (g.last {x = x} u) t = let f = expr_low 0 x a h u t in let s = f.low in record { some = f.some; low = omega arith }
     exprs_low zs d n (g.more {h = h} {i = i} {x = x} {xs = xs} {a = a} {b = c} u v) t =
         let f = expr_low 0 x a h u (low_left m (top 1) a (sign p.Comma ∷ c) t) in

@@ -21,3 +21,6 @@ pub mod ShaderFits
 pub mod Measured
 pub mod MeasuredBodies
 pub mod GrammarLow
+pub mod GrammarFiles
+pub mod Lexed
+pub mod LongestTexts
