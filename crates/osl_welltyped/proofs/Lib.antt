@@ -24,3 +24,4 @@ pub mod GrammarLow
 pub mod GrammarFiles
 pub mod Lexed
 pub mod LongestTexts
+pub mod Constants
