@@ -93,14 +93,14 @@ in_other r w n vty vs x y ne lt others p = record { held = record { each = λ j 
     kept : (j : ℕ) (v : AnyValue) → slice_get vs j ≡ Some v → y.values (r + j) ≡ v
     kept j v at = let l = get_some vs j v at in let z : r + j ≡ r = omega (arith, l, short) in ap y.values z ∙ others r lt ne ∙ sym (ap x.values z) ∙ p.held.each j v at
 
--- the target's indices and the value are known
-abbrev pub Both : List Place → ℕ → Ty → (List (List AnyValue) × List AnyValue) → R.State → Type 0
-Both ps r vty both x = AllIn ps (both.0) x × In r (vty ∷ []) (both.1) x
+-- the indices of the target and the value are known
+abbrev pub IndicesAndValue : List Place → ℕ → Ty → (List (List AnyValue) × List AnyValue) → R.State → Type 0
+IndicesAndValue ps r vty both x = AllIn ps (both.0) x × In r (vty ∷ []) (both.1) x
 
 module _ (b : Body) (loud : b.calm ≡ false) (rt : Root) (part : Part) (ty vty : Ty) (w : ℕ) (ps : List Place) (cs : List ℕ) (r : ℕ) where
   -- the write itself, after the indices and the value
   pub store_code : (opsE ops1 : List Op) (syms0 symsN symsE syms1 : List Symbol) → Target b syms0 rt part ty w → Room b syms0 → Extends syms0 symsN → Extends symsN symsE → AllSingle ps → AllUnwired b (firsts ps) → AllBelow (length symsE) w (firsts ps) → Named b symsN part.component cs → IsOwn b r → r ≢ w → r < length symsE → HasValues ty → (firsts ps ++ cs ≡ [] → vty ≡ ty) → StoreCode opsE ops1 symsE syms1 w ty (firsts ps ++ cs) r
-      → Code b opsE ops1 symsE syms1 (Both ps r vty) (In r (vty ∷ [])) (λ inputs both s. Gives (both.1) (write_part (frame_at b inputs) rt part (map single (both.0)) (both.1) s))
+      → Code b opsE ops1 symsE syms1 (IndicesAndValue ps r vty) (In r (vty ∷ [])) (λ inputs both s. Gives (both.1) (write_part (frame_at b inputs) rt part (map single (both.0)) (both.1) s))
   store_code opsE ops1 syms0 symsN symsE syms1 t room ext0 extN one unwired below name own ne below_r sound same c =
       let rw = room.within in let l0 = ext0.longer in let lN = extN.longer in let low = t.low in
       record {
@@ -140,7 +140,7 @@ module _ (b : Body) (loud : b.calm ≡ false) (rt : Root) (part : Part) (ty vty 
       let l1 = c.grows.syms.longer in let wi = ce.within in
       let ext0 = extends_on syms0 symsI symsN ci.code.grows.syms extN in
       let P1 : Shows (List (List AnyValue)) = AllIn ps in
-      let P2 : Shows (List (List AnyValue) × List AnyValue) = Both ps r vty in
+      let P2 : Shows (List (List AnyValue) × List AnyValue) = IndicesAndValue ps r vty in
       let own : IsOwn b r = (let e : r + 0 ≡ r = omega arith in subst (IsOwn b) e (ce.own 0 (omega arith))) in
       let first = code_more b ops0 opsI syms0 symsI symsN Anything P1 (λ inputs a s. in_order (indices inputs) s Gives) extN ci.code in
       let second = code_beside b opsI opsE symsN symsE P1 (In r (vty ∷ [])) (λ inputs a. sem inputs) stays (code_any b opsI opsE symsN symsE P1 (In r (vty ∷ [])) sem ce.code) in

@@ -38,3 +38,4 @@ pub mod StructureValues
 pub mod LayerStart
 pub mod LayerResults
 pub mod LayerCode
+pub mod PartUpdates

@@ -25,7 +25,7 @@ use Rattle.osl_value.proofs.TableLaws.{applied_type}
 use Rattle.osl_gencode.specs.PartCodes.{Computed, SelectCode, AllUnder, AllOwn, Selects}
 use Rattle.osl_gencode.specs.Relation.{IsOwn, Wired, In, Related}
 use Rattle.osl_gencode.specs.Growth.{Extends, Covers}
-use Rattle.osl_gencode.specs.Codes.{ExprCode, ListCode, AllIn, Place, Anything, AllWithin}
+use Rattle.osl_gencode.specs.Codes.{ExprCode, ListCode, AllIn, Place, Anything, AllWithin, Code}
 use Rattle.osl_gencode.specs.Bodies.{symbol_of, global_of, Body, IsVariable, Room, frame_at, frame_end, IsNew}
 use Rattle.osl_gencode.specs.RunEnds.{GivesCode}
 use Rattle.osl_gencode.proofs.Operations.{all_unwired, AllSingle, firsts, one_place, own_one}
@@ -157,6 +157,22 @@ module _ (b : Body) (rt : Root) (part : Part) (ps : List Place) (cs : List ℕ) 
   meaning : (indices : Inputs → List Meaning) (inputs : Inputs) (s : State) → Read indices inputs s ≡ then_value (in_order (indices inputs) s Gives) (λ vss s1. read_part (frame_at b inputs) rt part (map single vss) s1)
   meaning indices inputs s = in_order_then (indices inputs) s (λ vss s1. read_part (frame_at b inputs) rt part (map single vss) s1)
 
+  -- after the indices: what the source reads of the leaf
+  pub source_reads : (opsI ops1 : List Op) (syms0 symsI symsN syms1 : List Symbol) (w : ℕ) (ty : Ty) → Room b syms0 → LeafSource b syms0 rt part ty w → AllSingle ps → AllWithin b (length symsI) ps → Extends syms0 symsI → Extends symsI symsN → Named b symsN part.component cs → SelectCode opsI ops1 symsN syms1 w ty (firsts ps ++ cs) r to → Code b opsI ops1 symsN syms1 (AllIn ps) (In r (to ∷ [])) (λ inputs vss s1. read_part (frame_at b inputs) rt part (map single vss) s1)
+  source_reads opsI ops1 syms0 symsI symsN syms1 w ty room src one places extI extN name c =
+      let rw = room.within in let lI = extI.longer in let lN = extN.longer in let low = src.low in
+      let ext0 = extends_on syms0 symsI symsN extI extN in
+      record {
+      grows = c.grows;
+      runs = λ inputs from steps syms vss s x wired cov ext rel all.
+          let extS = extends_on symsN syms1 syms c.grows.syms ext in
+          let roomS = room_later b syms0 syms (extends_on syms0 symsN syms ext0 extS) room in
+          let owns = all_own b inputs from (w ∷ (firsts ps ++ cs)) wired (src.own, unwired_append b (firsts ps) cs (all_unwired b (length symsI) ps one places) (named_unwired b symsN part.component cs name)) in
+          let under = under_append (length symsN) (firsts ps) cs (singles_under b (length symsI) (length symsN) ps lN one places) (named_under b symsN part.component cs name) in
+          subst (GivesCode b from steps syms (length symsN) (In r (to ∷ [])) (length opsI) (length ops1) x) (sym (src.reads inputs from wired (map single vss) s)) (
+          select_gives b from steps syms roomS opsI ops1 symsN syms1 w ty (firsts ps ++ cs) r to (src.leaf s) (all_indices part (map single vss)) s x c cov ext (omega (arith, rw, lI, lN)) (λ k l. above_own b syms0 room k (omega (arith, rw, lI, lN, l)) inputs from wired) owns (omega (arith, low, rw, lI, lN), under) (src.holds syms s x rel) (src.typed syms s x rel) (indices_are b symsN syms part ps cs vss s x extS name one all rel) rel);
+      }
+
   -- a leaf that no input reaches is read where it is, and without indices it needs no op
   pub source_code : (ops0 opsI ops1 : List Op) (syms0 symsI symsN syms1 : List Symbol) (w : ℕ) (ty : Ty) (indices : Inputs → List Meaning) → Room b syms0 → LeafSource b syms0 rt part ty w → AllSingle ps → ListCode b ops0 opsI syms0 symsI ps indices → Extends symsI symsN → Named b symsN part.component cs → SelectCode opsI ops1 symsN syms1 w ty (firsts ps ++ cs) r to → ExprCode b ops0 ops1 syms0 syms1 r (to ∷ []) (Read indices)
   source_code ops0 opsI ops1 syms0 symsI symsN syms1 w ty indices room src one ci extN name c =
@@ -167,16 +183,7 @@ module _ (b : Body) (rt : Root) (part : Part) (ps : List Place) (cs : List ℕ) 
         own = own_one b r (selected_own b syms0 room opsI ops1 symsN syms1 w ty (firsts ps ++ cs) r to ext0 src.own c);
         places = one_place syms1 r to (c.typed (variable_typed symsN w ty (variable_later syms0 symsN w ty ext0 src.variable)));
         code = code_as b ops0 ops1 syms0 syms1 Anything (In r (to ∷ [])) _ _ (λ j inputs a s. sym (meaning indices inputs s) j) (
-            code_then b ops0 opsI ops1 syms0 symsN syms1 Anything (AllIn ps) (In r (to ∷ [])) (λ inputs a s. in_order (indices inputs) s Gives) (λ inputs vss s1. read_part (frame_at b inputs) rt part (map single vss) s1) (code_more b ops0 opsI syms0 symsI symsN Anything (AllIn ps) (λ inputs a s. in_order (indices inputs) s Gives) extN ci.code) (record {
-              grows = c.grows;
-              runs = λ inputs from steps syms vss s x wired cov ext rel all.
-                  let extS = extends_on symsN syms1 syms c.grows.syms ext in
-                  let roomS = room_later b syms0 syms (extends_on syms0 symsN syms ext0 extS) room in
-                  let owns = all_own b inputs from (w ∷ (firsts ps ++ cs)) wired (src.own, unwired_append b (firsts ps) cs (all_unwired b (length symsI) ps one ci.within) (named_unwired b symsN part.component cs name)) in
-                  let under = under_append (length symsN) (firsts ps) cs (singles_under b (length symsI) (length symsN) ps lN one ci.within) (named_under b symsN part.component cs name) in
-                  subst (GivesCode b from steps syms (length symsN) (In r (to ∷ [])) (length opsI) (length ops1) x) (sym (src.reads inputs from wired (map single vss) s)) (
-                  select_gives b from steps syms roomS opsI ops1 symsN syms1 w ty (firsts ps ++ cs) r to (src.leaf s) (all_indices part (map single vss)) s x c cov ext (omega (arith, rw, lI, lN)) (λ k l. above_own b syms0 room k (omega (arith, rw, lI, lN, l)) inputs from wired) owns (omega (arith, low, rw, lI, lN), under) (src.holds syms s x rel) (src.typed syms s x rel) (indices_are b symsN syms part ps cs vss s x extS name one all rel) rel);
-            }));
+            code_then b ops0 opsI ops1 syms0 symsN syms1 Anything (AllIn ps) (In r (to ∷ [])) (λ inputs a s. in_order (indices inputs) s Gives) (λ inputs vss s1. read_part (frame_at b inputs) rt part (map single vss) s1) (code_more b ops0 opsI syms0 symsI symsN Anything (AllIn ps) (λ inputs a s. in_order (indices inputs) s Gives) extN ci.code) (source_reads opsI ops1 syms0 symsI symsN syms1 w ty room src one ci.within ci.code.grows.syms extN name c));
       }
 
 -- ---- what may be connected
