@@ -25,3 +25,5 @@ pub mod GrammarFiles
 pub mod Lexed
 pub mod LongestTexts
 pub mod Constants
+pub mod NamesKnown
+pub mod TypingsFit
