@@ -1,5 +1,5 @@
 -- The arguments of a call, from left to right, and what the frame of the function is filled from.
-use Rattle.std.proofs.Common.{◌≡◌, ℕ, zero, suc, ◌+◌, ◌<◌, ◌≤◌, ◌⊎◌, ⊎_elim, List, [], ◌∷◌, ◌++◌, length, map, Option, Some, None, refl, sym, ap, ◌∙◌, arith, inr, length-append}
+use Rattle.std.proofs.Common.{◌≡◌, ℕ, zero, suc, ◌+◌, ◌<◌, ◌≤◌, ⊎_elim, List, [], ◌∷◌, ◌++◌, length, map, Option, Some, None, refl, sym, ap, ◌∙◌, arith, inr, length-append}
 use Rattle.std.specs.Prelude.{slice_get}
 use Rattle.std.specs.List.{flat_map}
 use Rattle.osl_value.specs.declared.types.Ty.{Ty}
@@ -218,24 +218,24 @@ module _ (b inner : Body) (result : List Ty) (syms1 : List Symbol) (ps : List Ar
   fills_shown syms passed x ext holds all k o at =
       let n = how_many passed x all in let m = how_many_symbols passed x all in
       ⊎_elim (λ (lt : k < length (argument_values passed)).
-        let r = get_there (argument_symbols ps) k (omega (arith, lt, m)) in
-        let is_o : Some o ≡ Some (Some (r.0)) = sym at ∙ fill.sources k (r.0) (r.1) in
-        let v = mapped x.values (argument_symbols ps) (argument_values passed) k (r.0) (passed_values ps passed x all) (r.1) in
-        let z : 0 + k ≡ k = omega arith in
-        ap (held_by x) (some_same is_o) ∙ sym (ap (with_leaves 0 (argument_values passed) (zero_leaves (inner.types ++ result))) (sym z) ∙ written_leaf 0 (argument_values passed) (zero_leaves (inner.types ++ result)) k (x.values (r.0)) v)) (λ (le : length (argument_values passed) ≤ k).
-        let c = fill.count in let lt = get_some rs k o at in let la = length-append inner.types result in
-        let t = get_there (inner.types ++ result) k (omega (arith, lt, c, la)) in
-        fill.zeros k o (t.0) (omega (arith, le, n)) at (t.1) syms x ext holds ∙ sym (zero_at (inner.types ++ result) k (t.0) (t.1)) ∙ sym (other_leaf 0 (argument_values passed) (zero_leaves (inner.types ++ result)) k (inr (omega (arith, le))))) (cases_lt k (length (argument_values passed)))
+      let r = get_there (argument_symbols ps) k (omega (arith, lt, m)) in
+      let is_o : Some o ≡ Some (Some (r.0)) = sym at ∙ fill.sources k (r.0) (r.1) in
+      let v = mapped x.values (argument_symbols ps) (argument_values passed) k (r.0) (passed_values ps passed x all) (r.1) in
+      let z : 0 + k ≡ k = omega arith in
+      ap (held_by x) (some_same is_o) ∙ sym (ap (with_leaves 0 (argument_values passed) (zero_leaves (inner.types ++ result))) (sym z) ∙ written_leaf 0 (argument_values passed) (zero_leaves (inner.types ++ result)) k (x.values (r.0)) v)) (λ (le : length (argument_values passed) ≤ k).
+      let c = fill.count in let lt = get_some rs k o at in let la = length-append inner.types result in
+      let t = get_there (inner.types ++ result) k (omega (arith, lt, c, la)) in
+      fill.zeros k o (t.0) (omega (arith, le, n)) at (t.1) syms x ext holds ∙ sym (zero_at (inner.types ++ result) k (t.0) (t.1)) ∙ sym (other_leaf 0 (argument_values passed) (zero_leaves (inner.types ++ result)) k (inr (omega (arith, le))))) (cases_lt k (length (argument_values passed)))
 
   -- and these have the types of the block
   pub fills_typed : (passed : List Passed) (x : R.State) → AllPassed ps passed x → (k : ℕ) (ty : Ty) → slice_get (inner.types ++ result) k ≡ Some ty → type_of (begins (map value_passed passed) inner.types result k) ≡ ty
   fills_typed passed x all k ty at =
       let n = how_many passed x all in
       ⊎_elim (λ (lt : k < length (argument_values passed)).
-        let v = get_there (argument_values passed) k lt in
-        let tv = typed_at (argument_values passed) (argument_types ps) k (v.0) (passed_types ps passed x all) (v.1) in
-        let here = fill.passed k (type_of (v.0)) tv in
-        let both : Some (type_of (v.0)) ≡ Some ty = sym (get_left inner.types result k (get_some inner.types k (type_of (v.0)) here) ∙ here) ∙ at in
-        let z : 0 + k ≡ k = omega arith in
-        ap type_of (ap (with_leaves 0 (argument_values passed) (zero_leaves (inner.types ++ result))) (sym z) ∙ written_leaf 0 (argument_values passed) (zero_leaves (inner.types ++ result)) k (v.0) (v.1)) ∙ some_same both) (λ (le : length (argument_values passed) ≤ k).
-        ap type_of (other_leaf 0 (argument_values passed) (zero_leaves (inner.types ++ result)) k (inr (omega (arith, le))) ∙ zero_at (inner.types ++ result) k ty at) ∙ zero_type ty (fill.has k ty at)) (cases_lt k (length (argument_values passed)))
+      let v = get_there (argument_values passed) k lt in
+      let tv = typed_at (argument_values passed) (argument_types ps) k (v.0) (passed_types ps passed x all) (v.1) in
+      let here = fill.passed k (type_of (v.0)) tv in
+      let both : Some (type_of (v.0)) ≡ Some ty = sym (get_left inner.types result k (get_some inner.types k (type_of (v.0)) here) ∙ here) ∙ at in
+      let z : 0 + k ≡ k = omega arith in
+      ap type_of (ap (with_leaves 0 (argument_values passed) (zero_leaves (inner.types ++ result))) (sym z) ∙ written_leaf 0 (argument_values passed) (zero_leaves (inner.types ++ result)) k (v.0) (v.1)) ∙ some_same both) (λ (le : length (argument_values passed) ≤ k).
+      ap type_of (other_leaf 0 (argument_values passed) (zero_leaves (inner.types ++ result)) k (inr (omega (arith, le))) ∙ zero_at (inner.types ++ result) k ty at) ∙ zero_type ty (fill.has k ty at)) (cases_lt k (length (argument_values passed)))

@@ -1,5 +1,5 @@
 -- Code that writes no older symbol: it is code like any other, and all that was found before it lasts, values in variables too.
-use Rattle.std.proofs.Common.{◌≡◌, ℕ, ◌+◌, ◌<◌, ◌≤◌, ◌⊎◌, List, [], ◌∷◌, ◌++◌, length, Bool, true, refl, sym, ◌∙◌}
+use Rattle.std.proofs.Common.{◌≡◌, ℕ, ◌+◌, List, [], ◌∷◌, ◌++◌, length, Bool, true, refl, sym, ◌∙◌}
 use Rattle.osl_value.specs.declared.types.Ty.{Ty}
 use Rattle.osl_layer.specs.Layer.{Inputs}
 use Rattle.oso_code.specs.declared.op.Op.{Op}
@@ -126,5 +126,5 @@ list_more_calm b ops0 ops1 ops2 syms0 syms1 syms2 ps p sems sem c d =
       within = within_snoc b (length syms1) (length syms2) ps p l2 d.within (λ k lt. own_loud true b (p.first + k) (d.own k lt)) c.within;
       places = typed_snoc syms1 syms2 ps p d.code.grows.syms c.places d.places;
       code = order_more b ops0 ops1 ops2 syms0 syms1 syms2 (AllIn ps) (In p.first p.types) (AllIn (ps ++ p ∷ [])) sems sem (λ vss vs x all here. in_snoc ps p vss vs x all here) c.code (
-        calm_beside b ops1 ops2 syms1 syms2 (AllIn ps) (In p.first p.types) (λ inputs a. sem inputs) (places_calm b (length syms1) ps c.within) (code_any (with_calm true b) ops1 ops2 syms1 syms2 (AllIn ps) (In p.first p.types) sem d.code));
+          calm_beside b ops1 ops2 syms1 syms2 (AllIn ps) (In p.first p.types) (λ inputs a. sem inputs) (places_calm b (length syms1) ps c.within) (code_any (with_calm true b) ops1 ops2 syms1 syms2 (AllIn ps) (In p.first p.types) sem d.code));
     }

@@ -1,8 +1,7 @@
 -- What a layer gives at its end: its outputs and the parts of `Ci`.
-use Rattle.std.proofs.Common.{◌≡◌, ℕ, zero, suc, ◌+◌, ◌<◌, ◌≤◌, ◌⊎◌, ⊎_elim, List, [], ◌∷◌, length, Option, Some, None, Bool, true, false, refl, sym, ap, ◌∙◌, arith}
+use Rattle.std.proofs.Common.{◌≡◌, ℕ, zero, suc, ◌+◌, ◌<◌, ◌≤◌, List, [], ◌∷◌, length, Option, Some, None, Bool, true, false, refl, sym, ap, ◌∙◌, arith}
 use Rattle.std.specs.Prelude.{slice_get, if◌then◌else◌}
 use Rattle.osl_value.specs.AnyValue.{AnyValue, parts_of}
-use Rattle.osl_layer.specs.declared.global.GlobalName.TheVariants as G
 use Rattle.osl_typed.specs.declared.shader.TypedParam.{TypedParam}
 use Rattle.osl_typed.specs.SourceRun as source
 use Rattle.oso_code.specs.declared.symbol.Class.{Class}

@@ -22,7 +22,6 @@ use Rattle.oso_code.specs.declared.symbol.Symbol.{Symbol}
 use Rattle.oso_code.specs.CodeRun.{source_of, is_parameter_at, sources_of, stated, parameter_start, class_start, symbol_start, start_of}
 use Rattle.oso_code.specs.Run as R
 use Rattle.oso_code.specs.Symbols.{is_parameter}
-use Rattle.osl_typed.specs.Expressions.{both}
 use Rattle.osl_gencode.specs.Relation.{Wired, Related}
 use Rattle.osl_gencode.specs.Bodies.{number_of, Body, is_const, symbol_of}
 use Rattle.osl_gencode.proofs.Growing.{get_there}
@@ -157,15 +156,15 @@ module _ (t : TypedShader) (b : Body) (raw : Raw) (inputs : Inputs) (symbols : A
       let sp = symbols.split in let sh = symbols.shift in let gl = symbols.globals_at in
       record {
         vars = λ k h. ⊎_elim (λ (lt : k < length t.params).
-          let p = get_there t.params k lt in
-          ap (λ z. symbol_start (inputs z) point (slice_get raw.symbols z)) (low_symbol b k (omega (arith, lt, sp))) ∙ param_start (p.0) raw.symbols k (inputs k) point (symbols.params k (p.0) (p.1)) ∙ sym (source_low k (p.0) point budget (p.1))) (λ (le : length t.params ≤ k).
-          let ty = get_there b.types k h in
-          let e : symbol_of b k ≡ 7 + k = high_symbol b k (omega (arith, le, sp)) ∙ ap (λ z. z + k) sh in
-          ap (λ z. symbol_start (inputs z) point (slice_get raw.symbols z)) e ∙ local_start (ty.0) raw.symbols (7 + k) (inputs (7 + k)) point (symbols.locals k (ty.0) le (ty.1)) ∙ sym (source_high k (ty.0) point budget le (ty.1))) (cases_lt k (length t.params));
+            let p = get_there t.params k lt in
+            ap (λ z. symbol_start (inputs z) point (slice_get raw.symbols z)) (low_symbol b k (omega (arith, lt, sp))) ∙ param_start (p.0) raw.symbols k (inputs k) point (symbols.params k (p.0) (p.1)) ∙ sym (source_low k (p.0) point budget (p.1))) (λ (le : length t.params ≤ k).
+            let ty = get_there b.types k h in
+            let e : symbol_of b k ≡ 7 + k = high_symbol b k (omega (arith, le, sp)) ∙ ap (λ z. z + k) sh in
+            ap (λ z. symbol_start (inputs z) point (slice_get raw.symbols z)) e ∙ local_start (ty.0) raw.symbols (7 + k) (inputs (7 + k)) point (symbols.locals k (ty.0) le (ty.1)) ∙ sym (source_high k (ty.0) point budget le (ty.1))) (cases_lt k (length t.params));
         typed = λ k ty at. ⊎_elim (λ (lt : k < length t.params).
-          let p = get_there t.params k lt in
-          let both : Some (p.0).ty ≡ Some ty = sym (symbols.first k (p.0) (p.1)) ∙ at in
-          ap type_of (source_low k (p.0) point budget (p.1)) ∙ start_typed k (p.0) (inputs k) (p.1) refl ∙ cc both) (λ (le : length t.params ≤ k). ap type_of (source_high k ty point budget le at) ∙ zero_type ty (symbols.has k ty at)) (cases_lt k (length t.params));
+            let p = get_there t.params k lt in
+            let both : Some (p.0).ty ≡ Some ty = sym (symbols.first k (p.0) (p.1)) ∙ at in
+            ap type_of (source_low k (p.0) point budget (p.1)) ∙ start_typed k (p.0) (inputs k) (p.1) refl ∙ cc both) (λ (le : length t.params ≤ k). ap type_of (source_high k ty point budget le at) ∙ zero_type ty (symbols.has k ty at)) (cases_lt k (length t.params));
         globals = λ g. ap (λ z. symbol_start (inputs (z + number_of g)) point (slice_get raw.symbols (z + number_of g))) gl ∙ global_start_is g raw.symbols (length t.params + number_of g) (inputs (length t.params + number_of g)) point (symbols.globals g);
         global_types = λ g. global_typed point g;
         turns = refl;
@@ -203,21 +202,21 @@ module _ (t : TypedShader) (b : Body) (raw : Raw) (inputs : Inputs) (symbols : A
       let sp = symbols.split in let sh = symbols.shift in let cn = symbols.connected in
       record {
         here = λ k j l1 l2. ⊎_elim (λ (lt : k < length t.params).
-          let p = symbols.places k lt in let p0 = p.0 in let p1 = p.1 in
-          let e : place_of b.structures b.kinds k + j ≡ k = omega (arith, p0, p1, l2) in
-          ap (λ z. sources_of raw inputs (symbol_of b z)) e ∙ ap (sources_of raw inputs) (low_symbol b k (omega (arith, lt, sp))) ∙ source_at k lt ∙ ap source_of (sym (given_low k lt))) (λ (le : length t.params ≤ k).
-          let q = symbols.later k le in
-          let s = high_symbol b (place_of b.structures b.kinds k + j) (omega (arith, q, sp)) in
-          own_high (symbol_of b (place_of b.structures b.kinds k + j)) (omega (arith, q, s)) ∙ ap source_of (sym (given_high k le))) (cases_lt k (length t.params));
+            let p = symbols.places k lt in let p0 = p.0 in let p1 = p.1 in
+            let e : place_of b.structures b.kinds k + j ≡ k = omega (arith, p0, p1, l2) in
+            ap (λ z. sources_of raw inputs (symbol_of b z)) e ∙ ap (sources_of raw inputs) (low_symbol b k (omega (arith, lt, sp))) ∙ source_at k lt ∙ ap source_of (sym (given_low k lt))) (λ (le : length t.params ≤ k).
+            let q = symbols.later k le in
+            let s = high_symbol b (place_of b.structures b.kinds k + j) (omega (arith, q, sp)) in
+            own_high (symbol_of b (place_of b.structures b.kinds k + j)) (omega (arith, q, s)) ∙ ap source_of (sym (given_high k le))) (cases_lt k (length t.params));
         first = λ k o e. let lt = connected_low k o e in let p = symbols.places k lt in (ap (symbol_of b) (p.0) ∙ low_symbol b k (omega (arith, lt, sp)), p.1);
         typed = λ k v ty e at.
-          let lt = connected_low k (Some v) e in
-          let p = get_there t.params k lt in
-          let both : Some (p.0).ty ≡ Some ty = sym (symbols.first k (p.0) (p.1)) ∙ sym (ap (slice_get b.types) ((symbols.places k lt).0)) ∙ at in
-          given.connected k (p.0) v (p.1) (sym (given_low k lt) ∙ e) ∙ cc both;
+            let lt = connected_low k (Some v) e in
+            let p = get_there t.params k lt in
+            let both : Some (p.0).ty ≡ Some ty = sym (symbols.first k (p.0) (p.1)) ∙ sym (ap (slice_get b.types) ((symbols.places k lt).0)) ∙ at in
+            given.connected k (p.0) v (p.1) (sym (given_low k lt) ∙ e) ∙ cc both;
         unwired = λ k o may e.
-          let lt = connected_low k o e in
-          let p = get_there t.params k lt in
-          given.outputs k (p.0) o (p.1) (symbols.stored k (p.0) (p.1) may) (sym (given_low k lt) ∙ e);
+            let lt = connected_low k o e in
+            let p = get_there t.params k lt in
+            given.outputs k (p.0) o (p.1) (symbols.stored k (p.0) (p.1) may) (sym (given_low k lt) ∙ e);
         above = λ k le. own_high k (omega (arith, le, cn));
       }

@@ -1,5 +1,5 @@
 -- `x op= e` in general: the target's indices, its old value, the right side, the operation, and then the write.
-use Rattle.std.proofs.Common.{◌≡◌, ℕ, ◌+◌, ◌<◌, ◌≤◌, ◌≢◌, List, [], ◌∷◌, ◌++◌, length, map, true, false, refl, sym, ◌∙◌, arith}
+use Rattle.std.proofs.Common.{◌≡◌, ℕ, ◌<◌, ◌≢◌, List, [], ◌∷◌, ◌++◌, length, map, true, false, refl, sym, ◌∙◌, arith}
 use Rattle.osl_value.specs.declared.op_name.OpName.{OpName}
 use Rattle.osl_value.specs.declared.op_name.OpName.TheVariants.{Empty}
 use Rattle.osl_value.specs.declared.types.Base.TheVariants.{Closure}
@@ -11,14 +11,12 @@ use Rattle.osl_value.specs.Types.{same_base}
 use Rattle.osl_layer.specs.Layer.{Inputs}
 use Rattle.oso_code.specs.declared.op.Op.{Op}
 use Rattle.oso_code.specs.declared.symbol.Symbol.{Symbol}
-use Rattle.oso_code.specs.Run as R
 use Rattle.osl_typed.specs.State.{State, ExpressionEnd, Gives, Exits, Spent, then_value, in_order}
 use Rattle.osl_typed.specs.Parts.{single, write_part}
 use Rattle.osl_typed.specs.Selections.{part_kind}
-use Rattle.osl_typed.specs.Expressions.{Meaning, promoted, read_part, updated, stored_as, both}
+use Rattle.osl_typed.specs.Expressions.{Meaning, promoted, read_part, updated, stored_as}
 use Rattle.osl_typed.specs.declared.expr.Part.{Part}
 use Rattle.osl_typed.specs.declared.expr.Root.{Root}
-use Rattle.osl_typed.specs.Statements.{below}
 use Rattle.osl_gencode.specs.PartCodes.{AllBelow, StoreCode}
 use Rattle.osl_gencode.specs.Relation.{IsOwn, In}
 use Rattle.osl_gencode.specs.Growth.{Extends}
@@ -90,7 +88,7 @@ module _ (b : Body) (loud : b.calm ≡ false) (rt : Root) (part : Part) (leaf vt
         own = own_one b u own;
         places = one_place syms1 u vty (type_later symsO syms1 u vty c.grows.syms type);
         code = code_as b ops0 ops1 syms0 syms1 Anything (In u (vty ∷ [])) _ _ (λ j inputs a s. sym (meaning indices sem converts inputs s) j) (
-          code_then b ops0 opsO ops1 syms0 symsO syms1 Anything P4 (In u (vty ∷ [])) _ _ four five);
+            code_then b ops0 opsO ops1 syms0 symsO syms1 Anything P4 (In u (vty ∷ [])) _ _ four five);
       }
     where
       meaning : (indices : Inputs → List Meaning) (sem : Inputs → Meaning) → ((inputs : Inputs) (x : AnyValue) → stored_as (part_kind part (indices inputs)) x ≡ convert x) → (inputs : Inputs) (s : State) → updated (frame_at b inputs) op ty rt part (indices inputs) (sem inputs) s ≡ then_value (then_value (then_value (then_value (in_order (indices inputs) s Gives) (λ vss s1. then_value (read_part (frame_at b inputs) rt part (map single vss) s1) (λ old s2. Gives (vss, old) s2))) (λ (p : List (List AnyValue) × List AnyValue) s1. then_value (sem inputs s1) (λ v s2. Gives (p, v) s2))) (λ (p : (List (List AnyValue) × List AnyValue) × List AnyValue) s1. Gives (p, new_value p) s1)) (λ (p : ((List (List AnyValue) × List AnyValue) × List AnyValue) × List AnyValue) s1. Gives (p.1) (write_part (frame_at b inputs) rt part (map single (p.0.0.0)) (p.1) s1))
@@ -112,6 +110,6 @@ promote_closure_code b ops0 ops1 syms0 syms1 r from ty symbol sem room is has ne
       own = own_one b (length syms1) (above_own b syms1 room1 (length syms1) (omega (arith, w, longer)));
       places = one_typed syms1 symbol ty new.typed;
       code = code_as b ops0 (ops1 ++ last ∷ []) syms0 (syms1 ++ symbol ∷ []) Anything (In (length syms1) (ty ∷ [])) _ _ (λ j inputs a s. then_value (sem inputs s) (λ v s1. Gives ((emptied ty is ∙ sym (promotes_empty ty (single v) is)) j ∷ []) s1)) (
-        code_then b ops0 ops1 (ops1 ++ last ∷ []) syms0 syms1 (syms1 ++ symbol ∷ []) Anything (In r (from ∷ [])) (In (length syms1) (ty ∷ [])) (λ inputs a. sem inputs) (λ inputs v s1. Gives (apply Empty ty [] ∷ []) s1) c.code (
-        op_code b ops1 syms1 (In r (from ∷ [])) Empty ty [] symbol (λ v. []) room1 refl refl new.typed new.free has tt (λ v x p. refl)));
+          code_then b ops0 ops1 (ops1 ++ last ∷ []) syms0 syms1 (syms1 ++ symbol ∷ []) Anything (In r (from ∷ [])) (In (length syms1) (ty ∷ [])) (λ inputs a. sem inputs) (λ inputs v s1. Gives (apply Empty ty [] ∷ []) s1) c.code (
+          op_code b ops1 syms1 (In r (from ∷ [])) Empty ty [] symbol (λ v. []) room1 refl refl new.typed new.free has tt (λ v x p. refl)));
     }

@@ -1,5 +1,5 @@
 -- Values of several leaves: a variable that is a structure, a field that is one, and structures that are assigned.
-use Rattle.std.proofs.Common.{◌≡◌, ℕ, zero, suc, ◌+◌, ◌<◌, ◌≤◌, ◌⊎◌, ⊎_elim, List, [], ◌∷◌, ◌++◌, length, Some, true, refl, sym, ap, ◌∙◌, subst, arith, false, map, Option, None, inl, inr}
+use Rattle.std.proofs.Common.{◌≡◌, ℕ, zero, suc, ◌+◌, ◌<◌, ◌≤◌, ◌⊎◌, ⊎_elim, List, [], ◌∷◌, length, Some, true, refl, sym, ap, ◌∙◌, subst, arith, false, map, Option, None, inl, inr}
 use Rattle.std.specs.Prelude.{slice_get, drop, take}
 use Rattle.osl_value.specs.declared.types.Ty.{Ty}
 use Rattle.osl_value.specs.AnyValue.{AnyValue, type_of}
@@ -35,11 +35,13 @@ use Rattle.osl_gencode.proofs.CalmCode.{code_to}
 
 pub leaves_in_row : (b : Body) (syms : List Symbol) (k0 w : ℕ) (types : List Ty) (s : State) (x : R.State) → AreLeaves b k0 w types → Related b syms s x → In w types (leaves_at s.vars k0 (length types)) x
 leaves_in_row b syms k0 w types s x leaves rel = record {
-  held = record { each = λ k v at.
-    let l = get_some (leaves_at s.vars k0 (length types)) k v at in let n = leaves_length s.vars k0 (length types) in
-    let t = get_there types k (omega (arith, l, n)) in
-    let lt = get_some b.types (k0 + k) (t.0) (leaves.typed k (t.0) (t.1)) in
-    sym (ap x.values (leaves.symbols k (omega (arith, l, n)))) ∙ rel.vars (k0 + k) lt ∙ leaf_is s.vars k0 (length types) k v at };
+  held = record {
+    each = λ k v at.
+        let l = get_some (leaves_at s.vars k0 (length types)) k v at in let n = leaves_length s.vars k0 (length types) in
+        let t = get_there types k (omega (arith, l, n)) in
+        let lt = get_some b.types (k0 + k) (t.0) (leaves.typed k (t.0) (t.1)) in
+        sym (ap x.values (leaves.symbols k (omega (arith, l, n)))) ∙ rel.vars (k0 + k) lt ∙ leaf_is s.vars k0 (length types) k v at;
+  };
   typed = leaves_typed s.vars k0 types (λ k ty at. rel.typed (k0 + k) ty (leaves.typed k ty at));
 }
 
@@ -64,8 +66,11 @@ module _ (b : Body) (k m : ℕ) (part : Part) where
         code = record {
           grows = record { ops = extends_self ops0; syms = extends_self syms0 };
           runs = λ inputs from steps syms a s x wired cov ext rel p.
-            subst (GivesCode b from steps syms (length syms0) (In w types) (length ops0) (length ops0) x) (sym (read_whole (frame_at b inputs) k m part s kind ∙ unconnected inputs from wired s (leaves_at s.vars k0 (length types)) (inputs k) refl)) (
-            x, record { leads = leads_self from steps (length ops0) x; related = rel; kept = kept_self b (length syms0) x }, leaves_in_row b syms k0 w types s x leaves rel);
+              subst (GivesCode b from steps syms (length syms0) (In w types) (length ops0) (length ops0) x) (sym (read_whole (frame_at b inputs) k m part s kind ∙ unconnected inputs from wired s (leaves_at s.vars k0 (length types)) (inputs k) refl)) (
+                x,
+                record { leads = leads_self from steps (length ops0) x; related = rel; kept = kept_self b (length syms0) x },
+                leaves_in_row b syms k0 w types s x leaves rel,
+              );
         };
       }
     where
@@ -121,20 +126,22 @@ past (x ∷ xs) (suc k) le = past xs k (omega (arith, le))
 -- n leaves of a value, from leaf m on
 pub in_field : (ra m : ℕ) (types inner : List Ty) (vs : List AnyValue) (x : R.State) → ((k : ℕ) (ty : Ty) → slice_get inner k ≡ Some ty → slice_get types (m + k) ≡ Some ty) → In ra types vs x → In (ra + m) inner (take (length inner) (drop m vs)) x
 in_field ra m types inner vs x fits p = record {
-  held = record { each = λ k v at.
-    let l = get_some (take (length inner) (drop m vs)) k v at in let s = taken_short (drop m vs) (length inner) in
-    let e : (ra + m) + k ≡ ra + (m + k) = omega arith in
-    ap x.values e ∙ p.held.each (m + k) v (sym (dropped vs m k) ∙ sym (taken_get (drop m vs) (length inner) k (omega (arith, l, s))) ∙ at) };
+  held = record {
+    each = λ k v at.
+        let l = get_some (take (length inner) (drop m vs)) k v at in let s = taken_short (drop m vs) (length inner) in
+        let e : (ra + m) + k ≡ ra + (m + k) = omega arith in
+        ap x.values e ∙ p.held.each (m + k) v (sym (dropped vs m k) ∙ sym (taken_get (drop m vs) (length inner) k (omega (arith, l, s))) ∙ at);
+  };
   typed = same_types (map type_of (take (length inner) (drop m vs))) inner (λ k. ⊎_elim (λ (lt : k < length inner).
-    let t = get_there inner k lt in
-    map_get (take (length inner) (drop m vs)) k
-    ∙ ap (λ o. elim o [ None ↦ None | Some v ↦ Some (type_of v) ]) (taken_get (drop m vs) (length inner) k lt ∙ dropped vs m k)
-    ∙ sym (map_get vs (m + k))
-    ∙ ap (λ l. slice_get l (m + k)) p.typed
-    ∙ fits k (t.0) (t.1)
-    ∙ sym (t.1)) (λ (le : length inner ≤ k).
-    let s = taken_short (drop m vs) (length inner) in let n = length-map (take (length inner) (drop m vs)) type_of in
-    past (map type_of (take (length inner) (drop m vs))) k (omega (arith, le, s, n)) ∙ sym (past inner k le)) (cases_lt k (length inner)));
+      let t = get_there inner k lt in
+      map_get (take (length inner) (drop m vs)) k
+      ∙ ap (λ o. elim o [ None ↦ None | Some v ↦ Some (type_of v) ]) (taken_get (drop m vs) (length inner) k lt ∙ dropped vs m k)
+      ∙ sym (map_get vs (m + k))
+      ∙ ap (λ l. slice_get l (m + k)) p.typed
+      ∙ fits k (t.0) (t.1)
+      ∙ sym (t.1)) (λ (le : length inner ≤ k).
+      let s = taken_short (drop m vs) (length inner) in let n = length-map (take (length inner) (drop m vs)) type_of in
+      past (map type_of (take (length inner) (drop m vs))) k (omega (arith, le, s, n)) ∙ sym (past inner k le)) (cases_lt k (length inner)));
 }
 
 field_taken : (frame : Frame) (kind : Kind) (m : ℕ) (part : Part) (vs : List AnyValue) → part.kind ≡ Structure m → selection part (field_leaves frame kind part vs) [] ≡ take (part_leaves frame part) (drop (leaves_before frame.structures kind part.fields) vs)
@@ -154,7 +161,7 @@ field_code b kind m part ops0 ops1 syms0 syms1 ra types sem is_kind fits inside 
       own = λ k lt. let e : ra + (j0 + k) ≡ (ra + j0) + k = omega arith in subst (IsOwn b) e (c.own (j0 + k) (omega (arith, lt, inside)));
       places = record { each = λ k ty at. let e : ra + (j0 + k) ≡ (ra + j0) + k = omega arith in subst (λ z. HasType syms1 z ty) e (c.places.each (j0 + k) ty (fits k ty at)) };
       code = code_as b ops0 ops1 syms0 syms1 Anything (In (ra + j0) inner) _ _ (λ i inputs a s. then_value (sem inputs s) (λ vs s1. Gives (sym (field_taken (frame_at b inputs) kind m part vs is_kind) i) s1)) (
-        code_to b ops0 ops1 syms0 syms1 Anything (In ra types) (In (ra + j0) inner) (λ vs. take (length inner) (drop j0 vs)) (λ inputs a. sem inputs) (λ syms vs s x ext rel p. in_field ra j0 types inner vs x fits p) c.code);
+          code_to b ops0 ops1 syms0 syms1 Anything (In ra types) (In (ra + j0) inner) (λ vs. take (length inner) (drop j0 vs)) (λ inputs a. sem inputs) (λ syms vs s x ext rel p. in_field ra j0 types inner vs x fits p) c.code);
     }
 
 -- ---- a structure is assigned
@@ -176,19 +183,22 @@ assign_structure_code b k m part ops0 ops1 ops2 syms0 syms1 r w types rs sem lou
       code = record {
         grows = record { ops = extends_on ops0 ops1 ops2 c.code.grows.ops mv.grows; syms = c.code.grows.syms };
         runs = λ inputs from steps syms a src cod wired cov ext rel nothing.
-          let roomS = room_later b syms0 syms (extends_on syms0 syms1 syms c.code.grows.syms ext) room in
-          seq_code b from steps syms (In r types) (In r types) (length syms0) (length syms0) (length ops0) (length ops1) (length ops2) cod (sem inputs src) (λ v s. Gives v (write_part (frame_at b inputs) (root.Variable k) part [] v s)) (omega arith) l1 (c.code.runs inputs from steps syms tt src cod wired (covers_before syms steps ops1 ops2 (length ops0) (length ops0) (omega arith) mv.grows cov) ext rel tt) (λ v s x rel1 kept1 p.
+            let roomS = room_later b syms0 syms (extends_on syms0 syms1 syms c.code.grows.syms ext) room in
+            seq_code b from steps syms (In r types) (In r types) (length syms0) (length syms0) (length ops0) (length ops1) (length ops2) cod (sem inputs src) (λ v s. Gives v (write_part (frame_at b inputs) (root.Variable k) part [] v s)) (omega arith) l1 (c.code.runs inputs from steps syms tt src cod wired (covers_before syms steps ops1 ops2 (length ops0) (length ops0) (omega arith) mv.grows cov) ext rel tt) (λ v s x rel1 kept1 p.
             let did = block_moves b ops1 ops2 w rs types v inputs from steps syms x mv wired (covers_before syms steps ops2 ops2 (length ops0) (length ops1) l0 (extends_self ops2) cov) (leaves_variables b syms k0 w types roomS leaves) (row_sources b w r (length types) rs row c.own apart) (row_held rs r types v x row p) in
             let y = did.0 in
             let n : length v ≡ length types = sym (length-map v type_of) ∙ ap length p.typed in
-            let rel2 = related_block b syms roomS k0 w types leaves v s x y p.typed did.2 rel1 in
-            (y, record {
-              leads = did.1;
-              related = subst (λ z. Related b syms z y) (sym (structure_written (frame_at b inputs) k m part v s kind)) rel2;
-              kept = kept_block b syms roomS k0 w types leaves (length syms0) v x y loud p.typed did.2;
-            }, record {
-              held = record { each = λ j u at. let lt = get_some v j u at in did.2.outside (r + j) (⊎_elim (λ l. inl (omega (arith, l, lt, n))) (λ g. inr (omega (arith, g, n))) apart) ∙ p.held.each j u at };
-              typed = p.typed;
-            }));
+            let rel2 = related_block b syms roomS k0 w types leaves v s x y p.typed did.2 rel1 in (
+              y,
+              record {
+                leads = did.1;
+                related = subst (λ z. Related b syms z y) (sym (structure_written (frame_at b inputs) k m part v s kind)) rel2;
+                kept = kept_block b syms roomS k0 w types leaves (length syms0) v x y loud p.typed did.2;
+              },
+              record {
+                held = record { each = λ j u at. let lt = get_some v j u at in did.2.outside (r + j) (⊎_elim (λ l. inl (omega (arith, l, lt, n))) (λ g. inr (omega (arith, g, n))) apart) ∙ p.held.each j u at };
+                typed = p.typed;
+              },
+            ));
       };
     }

@@ -1,5 +1,5 @@
 -- Operations that write a variable or a global at once: an assignment of an operation, `op=`, `++` and `--` as one op.
-use Rattle.std.proofs.Common.{◌≡◌, ℕ, ◌+◌, ◌<◌, ◌≤◌, List, [], ◌∷◌, ◌++◌, length, map, Some, None, false, sym, ap, ◌∙◌, subst, arith}
+use Rattle.std.proofs.Common.{◌≡◌, ℕ, List, [], ◌∷◌, ◌++◌, length, map, Some, None, false, sym, ap, ◌∙◌, subst, arith}
 use Rattle.osl_value.specs.declared.op_name.OpName.{OpName}
 use Rattle.osl_value.specs.declared.types.Ty.{Ty}
 use Rattle.osl_value.specs.AnyValue.{AnyValue, type_of}
@@ -48,21 +48,24 @@ module _ (b : Body) {A : Type 0} where
       record {
         grows = record { ops = extends_push ops op; syms = extends_self syms0 };
         runs = λ inputs from steps syms a src cod wired cov ext rel p.
-          let var = variable_later syms0 syms w ty ext t.variable in
-          let at = at_push syms steps ops op (length ops) (omega arith) cov ∙ ap Some (reading_step syms (length ops) name w ty rs plain reads var) in
-          let v = apply name ty (map cod.values rs) in
-          let u = apply name ty (values a) in
-          let v_is : v ≡ u = ap (apply name ty) (vals syms a src cod ext rel p) in
-          let y = R.write w v (R.ticked cod) in
-          let moves = compute_leads from steps (length ops) w name ty rs cod at (all_own b inputs from rs wired all) in
-          let st = subst (λ z. Stored syms w z (length syms0) cod y) v_is (stored_one syms w ty v (length syms0) cod var) in
-          let tu : type_of u ≡ ty = applied_type name ty (values a) has in
-          let is : write_part (frame_at b inputs) rt part [] (u ∷ []) src ≡ t.put u src = t.writes inputs [] (u ∷ []) src ∙ ap (λ z. t.put z src) (whole_put ty (t.leaf src) (all_indices part []) u (no_indices part none)) in
-          (y, record {
-            leads = subst (λ z. Leads from steps (length ops) z cod y) (sym (push_length ops op)) moves;
-            related = subst (λ z. Related b syms z y) (sym is) (t.related syms (length syms0) u src cod y ext rw tu st rel);
-            kept = kept_target b syms0 rt part ty w t loud syms (length syms0) u cod y st;
-          }, in_one w ty u y st.value tu);
+            let var = variable_later syms0 syms w ty ext t.variable in
+            let at = at_push syms steps ops op (length ops) (omega arith) cov ∙ ap Some (reading_step syms (length ops) name w ty rs plain reads var) in
+            let v = apply name ty (map cod.values rs) in
+            let u = apply name ty (values a) in
+            let v_is : v ≡ u = ap (apply name ty) (vals syms a src cod ext rel p) in
+            let y = R.write w v (R.ticked cod) in
+            let moves = compute_leads from steps (length ops) w name ty rs cod at (all_own b inputs from rs wired all) in
+            let st = subst (λ z. Stored syms w z (length syms0) cod y) v_is (stored_one syms w ty v (length syms0) cod var) in
+            let tu : type_of u ≡ ty = applied_type name ty (values a) has in
+            let is : write_part (frame_at b inputs) rt part [] (u ∷ []) src ≡ t.put u src = t.writes inputs [] (u ∷ []) src ∙ ap (λ z. t.put z src) (whole_put ty (t.leaf src) (all_indices part []) u (no_indices part none)) in (
+              y,
+              record {
+                leads = subst (λ z. Leads from steps (length ops) z cod y) (sym (push_length ops op)) moves;
+                related = subst (λ z. Related b syms z y) (sym is) (t.related syms (length syms0) u src cod y ext rw tu st rel);
+                kept = kept_target b syms0 rt part ty w t loud syms (length syms0) u cod y st;
+              },
+              in_one w ty u y st.value tu,
+            );
       }
 
 module _ (b : Body) where
@@ -88,8 +91,8 @@ module _ (b : Body) where
         own = own_one b w t.own;
         places = one_place syms1 w ty (variable_typed syms1 w ty t.variable);
         code = code_as b ops0 _ syms0 syms1 Anything (In w (ty ∷ [])) _ _ (λ j inputs a s. sym (meaning inputs s) j) (
-          code_then b ops0 ops1 (ops1 ++ op_of op w (firsts ps) ∷ []) syms0 syms1 syms1 Anything (AllIn ps) (In w (ty ∷ [])) (λ inputs a s. in_order (sems inputs) s Gives) (λ inputs vss s. Gives (apply op ty (map single vss) ∷ []) (write_part (frame_at b inputs) rt part [] (apply op ty (map single vss) ∷ []) s)) c.code (
-          target_code b ops1 syms1 (AllIn ps) rt part op ty w (firsts ps) (map single) loud room1 t none plain reads has (all_unwired b (length syms1) ps one c.within) (λ syms vss s x ext rel all. values_of ps vss x one all)));
+            code_then b ops0 ops1 (ops1 ++ op_of op w (firsts ps) ∷ []) syms0 syms1 syms1 Anything (AllIn ps) (In w (ty ∷ [])) (λ inputs a s. in_order (sems inputs) s Gives) (λ inputs vss s. Gives (apply op ty (map single vss) ∷ []) (write_part (frame_at b inputs) rt part [] (apply op ty (map single vss) ∷ []) s)) c.code (
+            target_code b ops1 syms1 (AllIn ps) rt part op ty w (firsts ps) (map single) loud room1 t none plain reads has (all_unwired b (length syms1) ps one c.within) (λ syms vss s x ext rel all. values_of ps vss x one all)));
       }
     where
       meaning : (inputs : Inputs) (s : State) → assigned (frame_at b inputs) rt part [] (λ s0. in_order (sems inputs) s0 (λ vs s1. Gives (apply op ty (map single vs) ∷ []) s1)) s ≡ then_value (in_order (sems inputs) s Gives) (λ vss s1. Gives (apply op ty (map single vss) ∷ []) (write_part (frame_at b inputs) rt part [] (apply op ty (map single vss) ∷ []) s1))

@@ -1,5 +1,5 @@
 -- `x op= e`, `++` and `--` of a whole variable or global, as one op that reads and writes it.
-use Rattle.std.proofs.Common.{◌≡◌, ℕ, ◌+◌, ◌<◌, ◌≤◌, ◌⊎◌, List, [], ◌∷◌, ◌++◌, length, None, true, false, refl, sym, ap, ◌∙◌, subst, arith}
+use Rattle.std.proofs.Common.{◌≡◌, ℕ, ◌+◌, List, [], ◌∷◌, ◌++◌, length, None, true, false, refl, sym, ap, ◌∙◌, subst, arith}
 use Rattle.osl_value.specs.declared.op_name.OpName.{OpName}
 use Rattle.osl_value.specs.declared.types.Ty.{Ty}
 use Rattle.osl_value.specs.AnyValue.{AnyValue, type_of}
@@ -18,7 +18,7 @@ use Rattle.osl_typed.specs.Ends.{Next}
 use Rattle.osl_typed.specs.Parts.{Frame, single, selected, write_part, all_indices}
 use Rattle.osl_typed.specs.Selections.{part_kind, types_on_the_way}
 use Rattle.osl_typed.specs.Statements.{with_value, done}
-use Rattle.osl_typed.specs.Expressions.{Meaning, read_part, updated, stored_as, stepping, whole, step_op, step_gives, stepped, one_of, holds}
+use Rattle.osl_typed.specs.Expressions.{Meaning, read_part, updated, stored_as, stepping, whole, step_op, step_gives, stepped, one_of}
 use Rattle.osl_typed.specs.declared.expr.Part.{Part}
 use Rattle.osl_typed.specs.declared.expr.Root.{Root}
 use Rattle.osl_typed.specs.declared.expr.Increment.{Increment}
@@ -61,9 +61,12 @@ module _ (b : Body) (rt : Root) (part : Part) (ty : Ty) (w : ℕ) (none : part.c
   here_code ops syms0 src = record {
     grows = record { ops = extends_self ops; syms = extends_self syms0 };
     runs = λ inputs from steps syms a s x wired cov ext rel p.
-      let is : read_part (frame_at b inputs) rt part [] s ≡ Gives (src.leaf s ∷ []) s = src.reads inputs from wired [] s ∙ ap (λ z. Gives (z ∷ []) s) (whole_leaf ty (src.leaf s) (all_indices part []) (no_indices part none)) in
-      subst (GivesCode b from steps syms (length syms0) (Here w) (length ops) (length ops) x) (sym is) (
-        x, record { leads = leads_self from steps (length ops) x; related = rel; kept = kept_self b (length syms0) x }, src.holds syms s x rel);
+        let is : read_part (frame_at b inputs) rt part [] s ≡ Gives (src.leaf s ∷ []) s = src.reads inputs from wired [] s ∙ ap (λ z. Gives (z ∷ []) s) (whole_leaf ty (src.leaf s) (all_indices part []) (no_indices part none)) in
+        subst (GivesCode b from steps syms (length syms0) (Here w) (length ops) (length ops) x) (sym is) (
+          x,
+          record { leads = leads_self from steps (length ops) x; related = rel; kept = kept_self b (length syms0) x },
+          src.holds syms s x rel,
+        );
   }
 
   -- what is stored has the type of the leaf already
@@ -91,7 +94,7 @@ module _ (b : Body) (rt : Root) (part : Part) (ty : Ty) (w : ℕ) (none : part.c
         own = own_one b w t.own;
         places = one_place syms1 w ty (variable_typed syms1 w ty t.variable);
         code = code_as b ops0 _ syms0 syms1 Anything (In w (ty ∷ [])) _ _ (λ j inputs a s. sym (meaning inputs s) j) (
-          code_then b ops0 ops1 (ops1 ++ op_of op w (w ∷ r ∷ []) ∷ []) syms0 syms1 syms1 Anything (Beside P Q) (In w (ty ∷ [])) _ _ (code_then b ops0 ops0 ops1 syms0 syms0 syms1 Anything P (Beside P Q) _ _ (here_code ops0 syms0 src) second) third);
+            code_then b ops0 ops1 (ops1 ++ op_of op w (w ∷ r ∷ []) ∷ []) syms0 syms1 syms1 Anything (Beside P Q) (In w (ty ∷ [])) _ _ (code_then b ops0 ops0 ops1 syms0 syms0 syms1 Anything P (Beside P Q) _ _ (here_code ops0 syms0 src) second) third);
       }
     where
       new : AnyValue → AnyValue → AnyValue
@@ -115,8 +118,8 @@ module _ (b : Body) (rt : Root) (ty : Ty) (w c : ℕ) where
         own = own_one b w t.own;
         places = one_place syms0 w ty (variable_typed syms0 w ty t.variable);
         code = code_as b ops _ syms0 syms0 Anything (In w (ty ∷ [])) _ _ (λ j inputs a s. then_value (read_part (frame_at b inputs) rt (whole ty) [] s) (λ old s1. Gives (sym (gives (single old) (stepped step ty (single old))) j ∷ []) (write_part (frame_at b inputs) rt (whole ty) [] (stepped step ty (single old) ∷ []) s1))) (
-          code_then b ops ops (ops ++ op_of (step_op step) w (w ∷ c ∷ []) ∷ []) syms0 syms0 syms0 Anything (Here w) (In w (ty ∷ [])) _ _ (here_code b rt (whole ty) ty w refl ops syms0 src) (
-          target_code b ops syms0 (Here w) rt (whole ty) (step_op step) ty w (w ∷ c ∷ []) (λ vs. single vs ∷ one_of ty ∷ []) loud room t refl p.0 p.1 has (t.own, (own, tt)) (λ syms vs s x ext rel h. ap (λ z. z ∷ x.values c ∷ []) h ∙ ap (λ z. single vs ∷ z ∷ []) (constant_holds b syms c ty (one_of ty) s x (constant_later syms0 syms c ty (one_of ty) ext one) rel))));
+            code_then b ops ops (ops ++ op_of (step_op step) w (w ∷ c ∷ []) ∷ []) syms0 syms0 syms0 Anything (Here w) (In w (ty ∷ [])) _ _ (here_code b rt (whole ty) ty w refl ops syms0 src) (
+            target_code b ops syms0 (Here w) rt (whole ty) (step_op step) ty w (w ∷ c ∷ []) (λ vs. single vs ∷ one_of ty ∷ []) loud room t refl p.0 p.1 has (t.own, (own, tt)) (λ syms vs s x ext rel h. ap (λ z. z ∷ x.values c ∷ []) h ∙ ap (λ z. single vs ∷ z ∷ []) (constant_holds b syms c ty (one_of ty) s x (constant_later syms0 syms c ty (one_of ty) ext one) rel))));
       }
 
   -- the others give the old one, which was copied before
@@ -135,7 +138,7 @@ module _ (b : Body) (rt : Root) (ty : Ty) (w c : ℕ) where
         own = k.own;
         places = k.places;
         code = code_as b ops0 last syms0 syms1 Anything Q _ _ (λ j inputs a s. then_value (read_part (frame_at b inputs) rt (whole ty) [] s) (λ vs s1. Gives (sym (gives (single vs) (stepped step ty (single vs))) j ∷ []) (write_part (frame_at b inputs) rt (whole ty) [] (stepped step ty (single vs) ∷ []) s1))) (
-          code_then b ops0 ops1 last syms0 syms1 syms1 Anything Q Q (λ inputs a s. read_part (frame_at b inputs) rt (whole ty) [] s) _ k.code old);
+            code_then b ops0 ops1 last syms0 syms1 syms1 Anything Q Q (λ inputs a s. read_part (frame_at b inputs) rt (whole ty) [] s) _ k.code old);
       }
     where
       as_single : (vs : List AnyValue) (x : R.State) → In r (ty ∷ []) vs x → In r (ty ∷ []) (single vs ∷ []) x

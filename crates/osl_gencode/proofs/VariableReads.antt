@@ -163,14 +163,14 @@ module _ (b : Body) (rt : Root) (part : Part) (ps : List Place) (cs : List ℕ) 
       let rw = room.within in let lI = extI.longer in let lN = extN.longer in let low = src.low in
       let ext0 = extends_on syms0 symsI symsN extI extN in
       record {
-      grows = c.grows;
-      runs = λ inputs from steps syms vss s x wired cov ext rel all.
-          let extS = extends_on symsN syms1 syms c.grows.syms ext in
-          let roomS = room_later b syms0 syms (extends_on syms0 symsN syms ext0 extS) room in
-          let owns = all_own b inputs from (w ∷ (firsts ps ++ cs)) wired (src.own, unwired_append b (firsts ps) cs (all_unwired b (length symsI) ps one places) (named_unwired b symsN part.component cs name)) in
-          let under = under_append (length symsN) (firsts ps) cs (singles_under b (length symsI) (length symsN) ps lN one places) (named_under b symsN part.component cs name) in
-          subst (GivesCode b from steps syms (length symsN) (In r (to ∷ [])) (length opsI) (length ops1) x) (sym (src.reads inputs from wired (map single vss) s)) (
-          select_gives b from steps syms roomS opsI ops1 symsN syms1 w ty (firsts ps ++ cs) r to (src.leaf s) (all_indices part (map single vss)) s x c cov ext (omega (arith, rw, lI, lN)) (λ k l. above_own b syms0 room k (omega (arith, rw, lI, lN, l)) inputs from wired) owns (omega (arith, low, rw, lI, lN), under) (src.holds syms s x rel) (src.typed syms s x rel) (indices_are b symsN syms part ps cs vss s x extS name one all rel) rel);
+        grows = c.grows;
+        runs = λ inputs from steps syms vss s x wired cov ext rel all.
+            let extS = extends_on symsN syms1 syms c.grows.syms ext in
+            let roomS = room_later b syms0 syms (extends_on syms0 symsN syms ext0 extS) room in
+            let owns = all_own b inputs from (w ∷ (firsts ps ++ cs)) wired (src.own, unwired_append b (firsts ps) cs (all_unwired b (length symsI) ps one places) (named_unwired b symsN part.component cs name)) in
+            let under = under_append (length symsN) (firsts ps) cs (singles_under b (length symsI) (length symsN) ps lN one places) (named_under b symsN part.component cs name) in
+            subst (GivesCode b from steps syms (length symsN) (In r (to ∷ [])) (length opsI) (length ops1) x) (sym (src.reads inputs from wired (map single vss) s)) (
+            select_gives b from steps syms roomS opsI ops1 symsN syms1 w ty (firsts ps ++ cs) r to (src.leaf s) (all_indices part (map single vss)) s x c cov ext (omega (arith, rw, lI, lN)) (λ k l. above_own b syms0 room k (omega (arith, rw, lI, lN, l)) inputs from wired) owns (omega (arith, low, rw, lI, lN), under) (src.holds syms s x rel) (src.typed syms s x rel) (indices_are b symsN syms part ps cs vss s x extS name one all rel) rel);
       }
 
   -- a leaf that no input reaches is read where it is, and without indices it needs no op
