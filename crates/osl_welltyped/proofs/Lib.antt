@@ -27,3 +27,4 @@ pub mod LongestTexts
 pub mod Constants
 pub mod NamesKnown
 pub mod TypingsFit
+pub mod Examples

@@ -46,6 +46,7 @@ use Rattle.osl_welltyped.proofs.MeasureLaws.{measured-Int, measured-Float, measu
 use Rattle.osl_welltyped.proofs.Steps.{none_is_not, some_same, bound, held}
 use Rattle.osl_welltyped.proofs.Suffixes.{expression_is}
 use Rattle.osl_welltyped.proofs.Assignments.{target_is}
+use Rattle.osl_welltyped.proofs.TypeTables.{goes_to}
 
 -- what a measure must be
 pub record IsMeasure (m : Measure) : Type 0 where
@@ -280,7 +281,7 @@ module _ (m : Measure) (is : IsMeasure m) where
   stored_low (Some p) a b c t ha hb la lb g =
       let r = bound (operation p a.kind b.kind) _ c g in
       let right = bound (fit r.value.right b) _ c r.goes in
-      let goes = held _ _ c right.goes in
+      let goes = held (goes_to r.value.ty a.kind) _ c right.goes in
       let y = fit_low r.value.right b right.value hb lb right.was in
       same_low _ c _ (some_same _ c (goes.1)) (over _ _ (measured-Update m r.value.op r.value.ty t.root t.part t.indices right.value) _ (is.more _ _ (omega arith)))
 
