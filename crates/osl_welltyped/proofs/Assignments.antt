@@ -1,18 +1,16 @@
 -- Assignments keep what is known.
-use Rattle.std.proofs.Common.{◌≡◌, true, false, List, [], ◌∷◌, map, Option, Some, None, refl, sym, ap, ◌∙◌, subst}
+use Rattle.std.proofs.Common.{◌≡◌, true, false, map, Option, Some, None, refl, ap, ◌∙◌, subst}
 use Rattle.std.proofs.lemmas.Bool.{and_from}
-use Rattle.osl_overload.specs.declared.signature.Kind.TheVariants.{Value}
 use Rattle.osl_tree.specs.declared.expr.AssignOp.{AssignOp}
 use Rattle.osl_tree.specs.declared.expr.BinaryOp.{BinaryOp}
-use Rattle.osl_typed.specs.declared.expr.TypedExpr.TheVariants as e
 use Rattle.osl_typed.specs.declared.found.Form.{Form}
 use Rattle.osl_typed.specs.declared.found.Form.TheVariants.{Place, Piece, Whole}
 use Rattle.osl_typed.specs.declared.found.Found.{Found}
 use Rattle.osl_typed.specs.Operators.{operation, operator_of}
 use Rattle.osl_typed.specs.Selections.{part_kind}
-use Rattle.osl_typed.specs.Typing.{◌>>=◌, when, expression, Target, target_form, set_to, updated_by, stored, assign, fit}
+use Rattle.osl_typed.specs.Typing.{expression, Target, target_form, set_to, updated_by, stored, assign, fit}
 use Rattle.osl_welltyped.specs.Kinded.{Rules, is_kind, stored_fits, updates_by, kinded}
-use Rattle.osl_welltyped.proofs.FoundFits.{FoundFits, FormFits, PlaceFits, ReadFits, place_read, fit_kinded}
+use Rattle.osl_welltyped.proofs.FoundFits.{FoundFits, FormFits, PlaceFits, place_read, fit_kinded}
 use Rattle.osl_welltyped.proofs.KindedLaws.{kinded-Assign, kinded-Update}
 use Rattle.osl_welltyped.proofs.OperatorsFit.{Stands, stands, value_fits}
 use Rattle.osl_welltyped.proofs.Steps.{none_is_not, some_same, bound, held, kind_is, only_if_so}
@@ -42,8 +40,8 @@ set_fits rules a b c t ft sb h =
     let right = bound (fit a.kind b) _ c h in
     let k = fit_kinded rules a.kind b right.value sb.fits sb.whole right.was in
     subst (FoundFits rules) (some_same _ c right.goes) (value_fits rules _ _ (kinded-Assign rules t.root t.part t.indices right.value
-      ∙ only_if_so _ _ (and_from _ _ ft.stores (ap (λ kind. is_kind kind (kinded rules right.value)) ft.kind_is ∙ kind_is a.kind (kinded rules right.value) k))
-      ∙ ap Some ft.kind_is))
+    ∙ only_if_so _ _ (and_from _ _ ft.stores (ap (λ kind. is_kind kind (kinded rules right.value)) ft.kind_is ∙ kind_is a.kind (kinded rules right.value) k))
+    ∙ ap Some ft.kind_is))
 
 updated_fits : (rules : Rules) (o : AssignOp) (operator : BinaryOp) (a b c : Found) (t : Target) → operator_of o ≡ Some operator → TargetFits rules a t → Stands rules b → updated_by operator a t b ≡ Some c → FoundFits rules c
 updated_fits rules o operator a b c t is ft sb h =
@@ -52,8 +50,8 @@ updated_fits rules o operator a b c t is ft sb h =
     let goes = held (goes_to r.value.ty a.kind) _ c right.goes in
     let k = fit_kinded rules r.value.right b right.value sb.fits sb.whole right.was in
     subst (FoundFits rules) (some_same _ c (goes.1)) (value_fits rules _ _ (kinded-Update rules r.value.op r.value.ty t.root t.part t.indices right.value
-      ∙ only_if_so _ _ (and_from _ _ ft.stores ((λ i. updates_by r.value.op r.value.ty (ft.kind_is i) (k i)) ∙ operation_updates o operator a.kind b.kind r.value is r.was (goes.0)))
-      ∙ ap Some ft.kind_is))
+    ∙ only_if_so _ _ (and_from _ _ ft.stores ((λ i. updates_by r.value.op r.value.ty (ft.kind_is i) (k i)) ∙ operation_updates o operator a.kind b.kind r.value is r.was (goes.0)))
+    ∙ ap Some ft.kind_is))
 
 stored_keeps : (rules : Rules) (o : AssignOp) (a b c : Found) (t : Target) (operator : Option BinaryOp) → operator_of o ≡ operator → TargetFits rules a t → Stands rules b → stored operator a t b ≡ Some c → FoundFits rules c
 stored_keeps rules o a b c t None is ft sb h = set_fits rules a b c t ft sb h

@@ -1,19 +1,17 @@
 -- Initialisers, declarations and statements: what is typed fits the rules, declares what the frame gains, and keeps the names.
-use Rattle.std.proofs.Common.{◌≡◌, ℕ, zero, suc, ◌+◌, ◌<◌, ◌≤◌, Bool, true, false, not, ◌&&◌, List, [], ◌∷◌, ◌++◌, flat_map, length, map, replicate, nat_le, Option, Some, None, refl, sym, ap, ◌∙◌, subst, arith, append_assoc, length-append}
+use Rattle.std.proofs.Common.{◌≡◌, ℕ, zero, suc, ◌+◌, ◌<◌, ◌≤◌, Bool, true, false, not, ◌&&◌, List, [], ◌∷◌, ◌++◌, length, map, replicate, nat_le, Option, Some, None, refl, sym, ap, ◌∙◌, subst, arith, append_assoc, length-append}
 use Rattle.std.specs.Prelude.{if◌then◌else◌, ◌==◌, slice_get, bytes_eq, nat_lt, ℤ, pos, negsuc}
 use Rattle.std.specs.List.{list_all}
 use Rattle.std.proofs.lemmas.Bool.{false≢true, and_from, and_parts, eq-eqb, le-leb, leb-true, lt-ltb}
 use Rattle.std.proofs.lemmas.List.Folds.{list_all-append}
 use Rattle.osl_value.specs.declared.types.Base.{Base}
 use Rattle.osl_value.specs.declared.types.Base.TheVariants.{Closure}
-use Rattle.osl_value.specs.declared.types.Ty.{Ty}
 use Rattle.osl_value.specs.Types.{only, same_base, longest_array}
 use Rattle.osl_tree.specs.declared.expr.BaseType.{BaseType}
 use Rattle.osl_tree.specs.declared.expr.BaseType.TheVariants as bases
 use Rattle.osl_tree.specs.declared.stmt.TypeName.TheVariants as types
 use Rattle.osl_typed.specs.Operators.{base_named}
 use Rattle.osl_value.specs.AnyValue.{is_array, element_type}
-use Rattle.osl_overload.specs.Kinds.{same_kind}
 use Rattle.osl_overload.specs.declared.signature.Kind.{Kind}
 use Rattle.osl_overload.specs.declared.signature.Kind.TheVariants.{Value, Structure, Void}
 use Rattle.osl_tree.specs.declared.expr.Expr.{Expr}
@@ -27,15 +25,13 @@ use Rattle.osl_typed.specs.declared.found.Binding.{Binding}
 use Rattle.osl_typed.specs.declared.found.Found.{Found}
 use Rattle.osl_typed.specs.declared.stmt.Declared.{Declared}
 use Rattle.osl_typed.specs.declared.stmt.TypedInit.{TypedInit}
-use Rattle.osl_typed.specs.declared.stmt.TypedInit.TheVariants as init
 use Rattle.osl_typed.specs.declared.shader.TypedStructure.{TypedStructure}
 use Rattle.osl_typed.specs.Frames.{fields_of}
-use Rattle.osl_typed.specs.FileTyping.{kinds_of_fields}
 use Rattle.osl_typed.specs.Scopes.{Scope, Sight, FieldName, StructureName, look, is_here, with_variable, structure_named}
-use Rattle.osl_typed.specs.Typing.{◌>>=◌, when, sequence, typing, fit, tree_of, fields_of_structure}
+use Rattle.osl_typed.specs.Typing.{◌>>=◌, sequence, typing, fit}
 use Rattle.osl_typed.specs.BodyTyping.{array_kind, declared_kind, listed_kinds, fit_first, begun, maybe_begun, declare, declare_all}
 use Rattle.osl_welltyped.specs.Agreement.{IsBound, SightFits, NamesFit}
-use Rattle.osl_welltyped.specs.Kinded.{Rules, is_type, is_kind, root_kind, kinded}
+use Rattle.osl_welltyped.specs.Kinded.{Rules, is_type, root_kind, kinded}
 use Rattle.osl_welltyped.specs.StatementsFit.{has_kind, items_fit, list_fits, init_fits, maybe_fits, declared_fits, are_numbered}
 use Rattle.osl_welltyped.specs.WellTyped.{kinds_declared}
 use Rattle.osl_welltyped.proofs.ExpressionsFit.{typing_stands}
@@ -98,7 +94,7 @@ module _ (rules : Rules) (sight : Sight) (bindings : List Binding) (seen : Sight
       (elim (is_array ty) as (λ t. is_array ty ≡ t → (if t then Some (replicate ty.len (Value (element_type ty))) else None) ≡ Some kinds → list_fits rules (Value ty) xs ≡ true) [
         | true ↦ λ is g. let p = and_parts (nat_le (length xs) ty.len) (list_all (has_kind rules (Value (element_type ty))) xs)
             (elements_fit ty.len (Value (element_type ty)) xs (ap (λ ks. items_fit rules ks xs) (some_same _ kinds g) ∙ fits)) in
-          three _ _ _ is (p.0) (p.1)
+            three _ _ _ is (p.0) (p.1)
         | false ↦ λ is g. none_is_not kinds g
       ]) refl h
   list_begun (Structure m) kinds xs h fits = structure_items m xs (slice_get sight.structures m) refl (ap (λ ks. items_fit rules ks xs) (some_same _ kinds h) ∙ fits)
@@ -118,7 +114,7 @@ begun_fits rules sight scope seen names kind (begin.List items) y h =
     let xs = bound (fit_first kinds.value all.value) _ y all.goes in
     ap (init_fits rules kind) (sym (some_same _ y xs.goes))
     ∙ list_begun rules sight scope.bindings seen names kind kinds.value xs.value kinds.was
-      (first_items rules sight scope.bindings seen names kinds.value all.value xs.value (all_stood rules sight scope.bindings seen names items all.value all.was) xs.was)
+    (first_items rules sight scope.bindings seen names kinds.value all.value xs.value (all_stood rules sight scope.bindings seen names items all.value all.was) xs.was)
 
 maybe_fit : (rules : Rules) (sight : Sight) (scope : Scope) → SightFits rules sight → NamesFit rules scope.bindings → (kind : Kind) (x : Option Init) (y : Option TypedInit) → maybe_begun sight scope kind x ≡ Some y → maybe_fits rules kind y ≡ true
 maybe_fit rules sight scope seen names kind None y h = ap (maybe_fits rules kind) (sym (some_same None y h))
@@ -154,7 +150,7 @@ array_type : (base : Base) (n : ℤ) (kind : Kind) → array_kind base n ≡ Som
 array_type base (pos n) kind h count =
     (elim (nat_le 1 n && nat_le n longest_array && not (same_base base Closure)) as (λ t. (nat_le 1 n && nat_le n longest_array && not (same_base base Closure)) ≡ t → (if t then Some (Value (record { base = base; len = n })) else None) ≡ Some kind → kind_below count kind ≡ true) [
       | true ↦ λ is g. let p = three_parts (nat_le 1 n) (nat_le n longest_array) (not (same_base base Closure)) is in
-        ap (kind_below count) (sym (some_same _ kind g)) ∙ and_from _ _ (p.1) (no_closure (same_base base Closure) (n == 0) (p.2))
+          ap (kind_below count) (sym (some_same _ kind g)) ∙ and_from _ _ (p.1) (no_closure (same_base base Closure) (n == 0) (p.2))
       | false ↦ λ is g. none_is_not kind g
     ]) refl h
 array_type base (negsuc n) kind h count = none_is_not kind h
@@ -221,10 +217,10 @@ pub with_name : (rules : Rules) (name : List ℕ) (kind : Kind) (writable : Bool
 unfolding look
 with_name rules name kind writable scope names extends writes = record {
   bound = λ word b.
-    elim (bytes_eq name word) as (λ t. (if t then Some (record { name = name; depth = scope.depth; root = root.Variable (length scope.kinds); kind = kind; writable = writable }) else look word scope.bindings) ≡ Some b → IsBound rules b) [
-      | true ↦ λ h. subst (IsBound rules) (some_same _ b h) (record { kind_is = extends (length scope.kinds) kind (at_end scope.kinds kind); writes = writes })
-      | false ↦ λ h. names.bound word b h
-    ];
+      elim (bytes_eq name word) as (λ t. (if t then Some (record { name = name; depth = scope.depth; root = root.Variable (length scope.kinds); kind = kind; writable = writable }) else look word scope.bindings) ≡ Some b → IsBound rules b) [
+        | true ↦ λ h. subst (IsBound rules) (some_same _ b h) (record { kind_is = extends (length scope.kinds) kind (at_end scope.kinds kind); writes = writes })
+        | false ↦ λ h. names.bound word b h
+      ];
 }
 
 one_declared : (sight : Sight) (type : TypeName) (v : Var) (scope : Scope) (r : Declared × Scope) → declare sight type v scope ≡ Some r → Grows sight scope (r.0 ∷ []) (r.1) (λ rules. declared_fits rules (r.0))
@@ -234,16 +230,16 @@ one_declared sight type v scope r h =
     let x = bound (maybe_begun sight scope kind.value v.init) _ r kind.goes in
     let t = held (not (is_here v.item.name scope)) _ r x.goes in
     subst (λ (r : Declared × Scope). Grows sight scope (r.0 ∷ []) (r.1) (λ rules. declared_fits rules (r.0)))
-      (some_same {A = Declared × Scope} (record { number = length scope.kinds; kind = kind.value; init = x.value }, with_variable v.item.name kind.value true scope) r (t.1))
-      (record {
-        kinds = refl;
-        numbers = and_from _ _ (eq-eqb (length scope.kinds) (length scope.kinds) refl) refl;
-        sound = and_from _ _ (declared_below sight.structures type v.item.len kind.value kind.was) refl;
-        fits = λ rules s. (
-          and_from _ _ (kind_is kind.value _ (s.holds (length scope.kinds) kind.value (at_end scope.kinds kind.value))) (maybe_fit rules sight scope s.sees s.names kind.value v.init x.value x.was),
-          with_name rules v.item.name kind.value true scope s.names s.holds (λ is. s.fresh (length scope.kinds) (omega arith))
-        );
-      })
+    (some_same {A = Declared × Scope} (record { number = length scope.kinds; kind = kind.value; init = x.value }, with_variable v.item.name kind.value true scope) r (t.1))
+    (record {
+      kinds = refl;
+      numbers = and_from _ _ (eq-eqb (length scope.kinds) (length scope.kinds) refl) refl;
+      sound = and_from _ _ (declared_below sight.structures type v.item.len kind.value kind.was) refl;
+      fits = λ rules s. (
+        and_from _ _ (kind_is kind.value _ (s.holds (length scope.kinds) kind.value (at_end scope.kinds kind.value))) (maybe_fit rules sight scope s.sees s.names kind.value v.init x.value x.was),
+        with_name rules v.item.name kind.value true scope s.names s.holds (λ is. s.fresh (length scope.kinds) (omega arith)),
+      );
+    })
 
 -- ---- one after the other
 
@@ -270,9 +266,9 @@ grows_then sight scope mid after ds es p q a b =
       numbers = numbered_both (length scope.kinds) ds es a.numbers (ap (λ n. are_numbered n es) (sym grown) ∙ b.numbers);
       sound = ap (list_all (kind_below (length sight.structures))) (map_both (λ d. d.kind) ds es) ∙ list_all-append (kind_below (length sight.structures)) (kinds_declared ds) (kinds_declared es) ∙ and_from _ _ a.sound b.sound;
       fits = λ rules s.
-        let first = a.fits rules (record { sees = s.sees; names = s.names; fresh = s.fresh; holds = extends_front rules mid.kinds (kinds_declared es) after.kinds b.kinds s.holds }) in
-        let second = b.fits rules (record { sees = s.sees; names = first.1; fresh = λ k le. s.fresh k (omega arith); holds = s.holds }) in
-        (and_from _ _ (first.0) (second.0), second.1);
+          let first = a.fits rules (record { sees = s.sees; names = s.names; fresh = s.fresh; holds = extends_front rules mid.kinds (kinds_declared es) after.kinds b.kinds s.holds }) in
+          let second = b.fits rules (record { sees = s.sees; names = first.1; fresh = λ k le. s.fresh k (omega arith); holds = s.holds }) in
+          (and_from _ _ (first.0) (second.0), second.1);
     }
 
 pub grows_none : (sight : Sight) (scope : Scope) (p : Rules → Bool) → ((rules : Rules) → Sees rules sight scope scope.kinds → p rules ≡ true) → Grows sight scope [] scope p
@@ -294,6 +290,6 @@ all_declared sight type (v ∷ vs) scope r h =
     let d = bound (declare sight type v scope) _ r h in
     let rest = bound (declare_all sight type vs (d.value.1)) _ r d.goes in
     subst (λ (r : List Declared × Scope). Grows sight scope (r.0) (r.1) (λ rules. list_all (declared_fits rules) (r.0)))
-      (some_same {A = List Declared × Scope} (d.value.0 ∷ rest.value.0, rest.value.1) r rest.goes)
-      (grows_then sight scope (d.value.1) (rest.value.1) (d.value.0 ∷ []) (rest.value.0) (λ rules. declared_fits rules (d.value.0)) (λ rules. list_all (declared_fits rules) (rest.value.0))
-        (one_declared sight type v scope d.value d.was) (all_declared sight type vs (d.value.1) rest.value rest.was))
+    (some_same {A = List Declared × Scope} (d.value.0 ∷ rest.value.0, rest.value.1) r rest.goes)
+    (grows_then sight scope (d.value.1) (rest.value.1) (d.value.0 ∷ []) (rest.value.0) (λ rules. declared_fits rules (d.value.0)) (λ rules. list_all (declared_fits rules) (rest.value.0))
+    (one_declared sight type v scope d.value d.was) (all_declared sight type vs (d.value.1) rest.value rest.was))

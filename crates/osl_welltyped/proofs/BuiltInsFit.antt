@@ -1,13 +1,12 @@
 -- The built-in functions: the operation of each takes its parameters.
-use Rattle.std.proofs.Common.{◌≡◌, ℕ, zero, suc, Bool, true, false, ◌&&◌, ◌||◌, List, [], ◌∷◌, ◌++◌, map, filter, flat_map, length, Option, Some, None, refl, sym, ap, ◌∙◌, subst}
+use Rattle.std.proofs.Common.{◌≡◌, ℕ, Bool, true, false, ◌&&◌, ◌||◌, List, [], ◌∷◌, ◌++◌, map, filter, flat_map, Option, Some, refl, ap, ◌∙◌}
 use Rattle.std.specs.Prelude.{if◌then◌else◌, slice_get, bytes_eq, codes}
 use Rattle.std.specs.List.{list_all}
-use Rattle.std.proofs.lemmas.Bool.{false≢true, and_from, and_parts, or_left}
+use Rattle.std.proofs.lemmas.Bool.{false≢true, and_from, and_parts}
 use Rattle.std.proofs.lemmas.List.Folds.{list_all-append}
 use Rattle.osl_value.specs.declared.op_name.OpName.{OpName}
 use Rattle.osl_value.specs.declared.op_name.OpName.TheVariants as O
 use Rattle.osl_value.specs.declared.types.Base.TheVariants.{Int}
-use Rattle.osl_value.specs.declared.types.Ty.{Ty}
 use Rattle.osl_value.specs.AnyValue.{is_array}
 use Rattle.osl_value.specs.Apply.{is_allowed}
 use Rattle.osl_value.specs.Types.{only}
@@ -82,7 +81,7 @@ unfolding built_in
 built_ins_fit name kinds =
     list_all-append candidate_fits (flat_map of_line (filter (λ x. bytes_eq x.name name) lines)) (if bytes_eq name (codes "arraylength") then array_length kinds else [])
     ∙ and_from _ _ (some_lines (λ x. bytes_eq x.name name) lines lines_fit)
-      (elim (bytes_eq name (codes "arraylength")) as (λ t. list_all candidate_fits (if t then array_length kinds else []) ≡ true) [ true ↦ length_fits kinds | false ↦ refl ])
+    (elim (bytes_eq name (codes "arraylength")) as (λ t. list_all candidate_fits (if t then array_length kinds else []) ≡ true) [ true ↦ length_fits kinds | false ↦ refl ])
 
 pub built_in_fits : (name : List ℕ) (kinds : List Kind) (k : ℕ) (c : Candidate) → slice_get (built_in name kinds) k ≡ Some c → candidate_fits c ≡ true
 built_in_fits name kinds k c at = all_at candidate_fits (built_in name kinds) k c at (built_ins_fit name kinds)

@@ -1,19 +1,14 @@
 -- Calls keep what is known.
-use Rattle.std.proofs.Common.{◌≡◌, ℕ, zero, suc, ◌+◌, Bool, true, false, ◌&&◌, ◌⊎◌, inl, inr, List, [], ◌∷◌, ◌++◌, length, map, Option, Some, None, refl, sym, ap, ◌∙◌, subst, arith}
+use Rattle.std.proofs.Common.{◌≡◌, ℕ, zero, suc, Bool, true, false, ◌&&◌, ◌⊎◌, inl, inr, List, [], ◌∷◌, ◌++◌, map, Option, Some, None, refl, sym, ap, ◌∙◌, subst}
 use Rattle.std.specs.Prelude.{if◌then◌else◌, slice_get, option_and_then}
 use Rattle.std.proofs.lemmas.Bool.{false≢true, and_from, and_parts}
 use Rattle.osl_value.specs.declared.op_name.OpName.{OpName}
 use Rattle.osl_value.specs.declared.op_name.OpName.TheVariants as op
-use Rattle.osl_value.specs.declared.types.Ty.{Ty}
-use Rattle.osl_value.specs.declared.types.Base.TheVariants.{Int}
-use Rattle.osl_value.specs.Types.{only}
-use Rattle.osl_overload.specs.Choice.{IsLeast, cost_at}
-use Rattle.osl_overload.specs.Cost.{argument_cost, cost, plus, total}
+use Rattle.osl_overload.specs.Cost.{argument_cost, plus, total}
 use Rattle.osl_overload.specs.Kinds.{same_kind}
-use Rattle.osl_overload.specs.declared.signature.Arg.{Arg}
 use Rattle.osl_overload.specs.declared.signature.Formal.{Formal}
 use Rattle.osl_overload.specs.declared.signature.Kind.{Kind}
-use Rattle.osl_overload.specs.declared.signature.Kind.TheVariants.{Value, Structure, Void}
+use Rattle.osl_overload.specs.declared.signature.Kind.TheVariants.{Void}
 use Rattle.osl_overload.specs.declared.signature.Signature.{Signature}
 use Rattle.osl_typed.specs.declared.expr.Argument.{Argument}
 use Rattle.osl_typed.specs.declared.expr.Argument.TheVariants.{In, Out}
@@ -22,22 +17,20 @@ use Rattle.osl_typed.specs.declared.expr.TypedExpr.TheVariants as e
 use Rattle.osl_typed.specs.declared.found.Callee.{Callee}
 use Rattle.osl_typed.specs.declared.found.Callee.TheVariants.{Declared, Operation, SubstrToEnd, Exit}
 use Rattle.osl_typed.specs.declared.found.Found.{Found}
-use Rattle.osl_typed.specs.declared.shader.TypedFunction.{TypedFunction}
 use Rattle.osl_typed.specs.BuiltIns.{built_in}
 use Rattle.osl_typed.specs.Choosing.{chosen, apart}
 use Rattle.osl_typed.proofs.Choices.{chosen_is_least}
-use Rattle.osl_typed.specs.Operators.{int}
 use Rattle.osl_typed.specs.Scopes.{Candidate, Sight}
-use Rattle.osl_typed.specs.Typing.{◌>>=◌, when, sequence, expression, as_argument, root_of, target_form, pass_to, pass_all, fit, fit_all, formal_kinds, plain_type, operation_call, called_as, longest, kinds_of, candidates, call}
-use Rattle.osl_welltyped.specs.Kinded.{Rules, takes, plain_types, passes, call_fits, formal_of, only_if, is_alike, kinded, passed_kind}
+use Rattle.osl_typed.specs.Typing.{◌>>=◌, sequence, expression, as_argument, root_of, target_form, pass_to, pass_all, fit, fit_all, formal_kinds, plain_type, operation_call, called_as, longest, kinds_of, candidates, call}
+use Rattle.osl_welltyped.specs.Kinded.{Rules, takes, plain_types, passes, call_fits, formal_of, is_alike, kinded, passed_kind}
 use Rattle.osl_welltyped.specs.Agreement.{IsDeclared, SightFits}
-use Rattle.osl_welltyped.proofs.Assignments.{TargetFits, target_fits}
+use Rattle.osl_welltyped.proofs.Assignments.{target_fits}
 use Rattle.osl_welltyped.proofs.BuiltInsFit.{kinds_taken, result_fits, callee_fits, built_in_fits}
 use Rattle.osl_welltyped.proofs.Constructors.{AllFit, AllStand, all_stand}
 use Rattle.osl_welltyped.proofs.FoundFits.{FoundFits, fit_kinded, three}
 use Rattle.osl_welltyped.proofs.KindedLaws.{kinded-In, kinded-Out, kinded-Int, kinded-Call, kinded-Exit}
 use Rattle.osl_welltyped.proofs.OperatorsFit.{Stands, value_fits, plain_is, apply_kinded}
-use Rattle.osl_welltyped.proofs.Steps.{none_is_not, some_same, bound, held, kind_is, only_if_so, same_kind-true, same_kind-refl}
+use Rattle.osl_welltyped.proofs.Steps.{none_is_not, some_same, bound, held, only_if_so, same_kind-true, same_kind-refl}
 
 -- ---- lists, by places
 
@@ -161,9 +154,9 @@ declared_called rules c args d s costs declared h =
     let xs = bound (pass_all c.signature.params args) _ d (sym (ap (λ callee. called_as callee c args) declared.callee) ∙ h) in
     let all = passes_all rules c.signature.params args xs.value s costs xs.was in
     subst (FoundFits rules) (some_same _ d xs.goes) (value_fits rules _ _ (kinded-Call rules declared.number c.signature.result xs.value
-      ∙ only_if_so _ _ (ap (λ o. call_fits o c.signature.result (map (passed_kind rules) xs.value)) declared.is
-        ∙ and_from _ _ (ap (λ k. same_kind k c.signature.result) (sym declared.result) ∙ same_kind-refl c.signature.result)
-          (ap (λ fs. passes fs (map (passed_kind rules) xs.value)) (sym declared.formals) ∙ all))))
+    ∙ only_if_so _ _ (ap (λ o. call_fits o c.signature.result (map (passed_kind rules) xs.value)) declared.is
+    ∙ and_from _ _ (ap (λ k. same_kind k c.signature.result) (sym declared.result) ∙ same_kind-refl c.signature.result)
+    (ap (λ fs. passes fs (map (passed_kind rules) xs.value)) (sym declared.formals) ∙ all))))
 
 has_cost : (cs : List Candidate) (args : List Found) (k : ℕ) (c : Candidate) → chosen (map (λ c. c.signature) cs) (map as_argument args) ≡ Some k → slice_get cs k ≡ Some c → HasCost c.signature.params args
 has_cost cs args k c is at =

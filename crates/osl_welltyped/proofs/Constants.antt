@@ -1,5 +1,5 @@
 -- Metadata: a constant is typed as such, whatever is in scope.
-use Rattle.std.proofs.Common.{◌≡◌, ℕ, zero, suc, Bool, true, false, not, ◌&&◌, ◌||◌, List, [], ◌∷◌, length, map, Option, Some, None, refl, sym, ap, ◌∙◌, subst}
+use Rattle.std.proofs.Common.{◌≡◌, ℕ, zero, suc, Bool, true, false, ◌&&◌, ◌||◌, List, [], ◌∷◌, length, map, Option, Some, None, refl, sym, ap, ◌∙◌, subst}
 use Rattle.std.specs.Prelude.{ℤ, if◌then◌else◌, ◌==◌, slice_get}
 use Rattle.std.specs.List.{list_all}
 use Rattle.std.proofs.lemmas.Bool.{false≢true, and_from, and_parts}
@@ -13,9 +13,8 @@ use Rattle.osl_overload.specs.Cost.{cost}
 use Rattle.osl_overload.specs.declared.signature.Kind.{Kind}
 use Rattle.osl_overload.specs.declared.signature.Kind.TheVariants.{Value, Structure, Void}
 use Rattle.osl_tree.specs.declared.expr.BaseType.{BaseType}
-use Rattle.osl_tree.specs.declared.expr.PrefixOp.{PrefixOp}
 use Rattle.osl_tree.specs.declared.expr.PrefixOp.TheVariants as before
-use Rattle.osl_tree.specs.declared.expr.Expr.{Expr, Expr-F, fold-Expr, fold-roll-Expr, ind-Expr, roll-Expr}
+use Rattle.osl_tree.specs.declared.expr.Expr.{Expr, Expr-F, fold-roll-Expr, ind-Expr, roll-Expr}
 use Rattle.osl_tree.specs.declared.expr.Expr.TheFolds.{map-Expr}
 use Rattle.osl_tree.specs.declared.expr.Expr.TheOpen as o
 use Rattle.osl_tree.specs.declared.stmt.Init.{Init}
@@ -33,9 +32,8 @@ use Rattle.osl_typed.specs.FileTyping as typing_rules
 use Rattle.osl_typed.specs.FileTyping.{Constancy, Numeral, Constant, Neither, is_constancy, constant_if, negated, constancy_step, constancy, kinds_of_fields}
 use Rattle.osl_typed.specs.Operators.{base_named, is_arithmetic, is_convertible, conversion_of}
 use Rattle.osl_typed.specs.Scopes.{Scope, Sight, StructureName, look}
-use Rattle.osl_typed.specs.Typing.{◌>>=◌, when, sequence, expression, tree_of, as_argument, fit, fit_at, plain_type, applied, prefixed, converted, trees, are_numbers, made_of, construct_from, construct, typing_step, found_form, typing}
+use Rattle.osl_typed.specs.Typing.{◌>>=◌, sequence, expression, tree_of, as_argument, fit, fit_at, plain_type, prefixed, converted, trees, are_numbers, made_of, construct_from, construct, typing_step, found_form, typing}
 use Rattle.osl_typed.specs.BodyTyping.{begun, listed_kinds, fit_first}
-use Rattle.osl_welltyped.specs.Agreement.{SightFits, NamesFit}
 use Rattle.osl_welltyped.specs.StatementsFit.{init_fits}
 use Rattle.osl_welltyped.specs.WellTyped.{makes_constants, constant_step, constant_passed, is_constant, is_constant_init, rules_of_constants}
 use Rattle.osl_welltyped.proofs.BodiesFit.{begun_fits}

@@ -1,5 +1,5 @@
 -- Constructors keep what is known.
-use Rattle.std.proofs.Common.{◌≡◌, ℕ, zero, suc, Bool, true, false, ◌&&◌, ◌||◌, ◌⊎◌, inl, inr, List, [], ◌∷◌, length, map, replicate, Option, Some, None, refl, sym, ap, ◌∙◌, subst, arith}
+use Rattle.std.proofs.Common.{◌≡◌, ℕ, zero, suc, true, false, ◌&&◌, ◌||◌, inl, inr, List, [], ◌∷◌, length, map, replicate, Option, Some, None, refl, ap, ◌∙◌, subst, arith}
 use Rattle.std.specs.Prelude.{if◌then◌else◌, ◌==◌}
 use Rattle.std.specs.List.{list_all}
 use Rattle.std.specs.Cmp.Lexicographic.{pointwise}
@@ -20,7 +20,7 @@ use Rattle.osl_tree.specs.declared.expr.BaseType.{BaseType}
 use Rattle.osl_typed.specs.declared.found.Found.{Found}
 use Rattle.osl_typed.specs.Operators as operators
 use Rattle.osl_typed.specs.Operators.{base_named}
-use Rattle.osl_typed.specs.Typing.{◌>>=◌, when, sequence, expression, tree_of, trees, are_numbers, made_of, converted, construct_from, construct}
+use Rattle.osl_typed.specs.Typing.{sequence, expression, trees, are_numbers, made_of, converted, construct_from, construct}
 use Rattle.osl_welltyped.specs.Kinded.{Rules, takes, plain_types, kinded}
 use Rattle.osl_welltyped.proofs.FoundFits.{FoundFits}
 use Rattle.osl_welltyped.proofs.OperatorsFit.{Stands, stands, value_fits, apply_kinded, converted_fits}
@@ -114,9 +114,9 @@ made_fits rules name ty args c s table h =
 matrix_made : (args : List Found) (ty : Ty) → ty ≡ only Matrix → (length args == 1 || length args == 16) ≡ true → (types : List Ty) → length types ≡ length args → list_all (λ ty. is_number ty) types ≡ true
     → takes op.Matrix ty (Some types) ≡ true
 matrix_made args ty is count types as_many numeric = ap (λ (t : Ty). takes op.Matrix t (Some types)) is ∙ matrix_takes types (elim (or_true (length args == 1) (length args == 16) count) [
-    | inl one ↦ or_left _ _ (are_fit 1 types (as_many ∙ eqb-true (length args) 1 one) numeric)
-    | inr all ↦ or_right _ _ (or_left _ _ (are_fit 16 types (as_many ∙ eqb-true (length args) 16 all) numeric))
-  ])
+  | inl one ↦ or_left _ _ (are_fit 1 types (as_many ∙ eqb-true (length args) 1 one) numeric)
+  | inr all ↦ or_right _ _ (or_left _ _ (are_fit 16 types (as_many ∙ eqb-true (length args) 16 all) numeric))
+])
 
 abbrev converted_alone : Ty → List Found → Option Found
 converted_alone ty args = elim args [ [] ↦ None | a ∷ more ↦ if length more == 0 then converted ty a else None ]
@@ -132,15 +132,15 @@ alone_fits rules ty (a ∷ more) c s h =
 from_fits : (rules : Rules) (b : Base) (args : List Found) (c : Found) → AllStand rules args → construct_from (only b) args ≡ Some c → FoundFits rules c
 from_fits rules b args c s h =
     elim (is_only Matrix (only b) && (length args == 1 || length args == 16)) as (λ t. (is_only Matrix (only b) && (length args == 1 || length args == 16)) ≡ t
-        → (if t then made_of op.Matrix (only b) args else (if is_one_triple (only b) && (length args == 3) then made_of op.Triple (only b) args else converted_alone (only b) args)) ≡ Some c → FoundFits rules c) [
+    → (if t then made_of op.Matrix (only b) args else (if is_one_triple (only b) && (length args == 3) then made_of op.Triple (only b) args else converted_alone (only b) args)) ≡ Some c → FoundFits rules c) [
       | true ↦ λ all g. let p = and_parts (is_only Matrix (only b)) (length args == 1 || length args == 16) all in
-        made_fits rules op.Matrix (only b) args c s (matrix_made args (only b) (same_type-true (only b) (only Matrix) (p.0)) (p.1)) g
+          made_fits rules op.Matrix (only b) args c s (matrix_made args (only b) (same_type-true (only b) (only Matrix) (p.0)) (p.1)) g
       | false ↦ λ other. elim (is_one_triple (only b) && (length args == 3)) as (λ t. (is_one_triple (only b) && (length args == 3)) ≡ t
           → (if t then made_of op.Triple (only b) args else converted_alone (only b) args) ≡ Some c → FoundFits rules c) [
-        | true ↦ λ all g. let p = and_parts (is_one_triple (only b)) (length args == 3) all in
-          made_fits rules op.Triple (only b) args c s (λ types as_many numeric. triple_takes b types (p.0) (are_fit 3 types (as_many ∙ eqb-true (length args) 3 (p.1)) numeric)) g
-        | false ↦ λ no_triple g. alone_fits rules (only b) args c s g
-      ] refl
+            | true ↦ λ all g. let p = and_parts (is_one_triple (only b)) (length args == 3) all in
+                made_fits rules op.Triple (only b) args c s (λ types as_many numeric. triple_takes b types (p.0) (are_fit 3 types (as_many ∙ eqb-true (length args) 3 (p.1)) numeric)) g
+            | false ↦ λ no_triple g. alone_fits rules (only b) args c s g
+          ] refl
     ] refl h
 
 pub construct_fits : (rules : Rules) (to : BaseType) (args : List Found) (c : Found) → AllFit rules args → construct to args ≡ Some c → FoundFits rules c

@@ -1,21 +1,18 @@
 -- Every typed expression is well formed, and has the kind that typing gives it.
-use Rattle.std.proofs.Common.{◌≡◌, ℕ, false, List, [], ◌∷◌, map, Option, Some, None, refl, sym, ap, ◌∙◌, subst}
+use Rattle.std.proofs.Common.{◌≡◌, List, [], ◌∷◌, map, Option, Some, refl, sym, subst}
 use Rattle.std.specs.Prelude.{ℤ}
-use Rattle.std.proofs.lemmas.Bool.{false≢true}
-use Rattle.osl_value.specs.declared.types.Base.TheVariants.{Int, Float, Str}
+use Rattle.osl_value.specs.declared.types.Base.TheVariants.{Str}
 use Rattle.osl_value.specs.Types.{only}
-use Rattle.osl_overload.specs.declared.signature.Kind.{Kind}
 use Rattle.osl_overload.specs.declared.signature.Kind.TheVariants.{Value}
-use Rattle.osl_tree.specs.declared.expr.Expr.{Expr, Expr-F, fold-Expr, fold-roll-Expr, ind-Expr, roll-Expr}
+use Rattle.osl_tree.specs.declared.expr.Expr.{Expr, Expr-F, fold-roll-Expr, ind-Expr, roll-Expr}
 use Rattle.osl_tree.specs.declared.expr.Expr.TheFolds.{map-Expr}
 use Rattle.osl_tree.specs.declared.expr.Expr.TheOpen as o
 use Rattle.osl_typed.specs.declared.expr.TypedExpr.TheVariants as e
 use Rattle.osl_typed.specs.declared.found.Binding.{Binding}
-use Rattle.osl_typed.specs.declared.found.Form.TheVariants.{Whole}
 use Rattle.osl_typed.specs.declared.found.Found.{Found}
-use Rattle.osl_typed.specs.Operators.{int, float}
+use Rattle.osl_typed.specs.Operators.{float}
 use Rattle.osl_typed.specs.Scopes.{Sight}
-use Rattle.osl_typed.specs.Typing.{◌>>=◌, sequence, int_literal, expression, tree_of, typing_step, found_form, typing, call, construct, index, field, postfixed, prefixed, cast, binary, choice, assign}
+use Rattle.osl_typed.specs.Typing.{◌>>=◌, sequence, int_literal, expression, tree_of, typing_step, found_form, typing, index, field, postfixed, prefixed, cast, binary, assign}
 use Rattle.osl_welltyped.specs.Kinded.{Rules, kinded}
 use Rattle.osl_welltyped.specs.Agreement.{SightFits, NamesFit}
 use Rattle.osl_welltyped.proofs.Assignments.{assign_fits}
@@ -24,7 +21,7 @@ use Rattle.osl_welltyped.proofs.Constructors.{AllFit, construct_fits}
 use Rattle.osl_welltyped.proofs.FoundFits.{FoundFits}
 use Rattle.osl_welltyped.proofs.KindedLaws.{kinded-Int, kinded-Float, kinded-Text}
 use Rattle.osl_welltyped.proofs.OperatorsFit.{Stands, stands, value_fits, parens_fit, prefixed_fits, postfixed_fits, cast_fits, binary_fits, choice_fits}
-use Rattle.osl_welltyped.proofs.Steps.{none_is_not, some_same, bound}
+use Rattle.osl_welltyped.proofs.Steps.{some_same, bound}
 use Rattle.osl_welltyped.proofs.Suffixes.{name_fits, index_fits, field_fits}
 
 module _ (rules : Rules) (sight : Sight) (bindings : List Binding) (seen : SightFits rules sight) (names : NamesFit rules bindings) where

@@ -1,14 +1,12 @@
 -- Structures, functions and the shader fit the rules.
-use Rattle.std.proofs.Common.{◌≡◌, ℕ, zero, suc, ◌+◌, ◌<◌, ◌≤◌, Bool, true, false, not, ◌&&◌, ◌⊎◌, inl, inr, List, [], ◌∷◌, ◌++◌, length, map, take, nat_lt, nat_le, Option, Some, None, refl, sym, ap, ◌∙◌, subst, arith, append_assoc, length-append}
+use Rattle.std.proofs.Common.{◌≡◌, ℕ, zero, suc, ◌+◌, ◌<◌, ◌≤◌, Bool, true, false, not, ◌&&◌, inl, inr, List, [], ◌∷◌, ◌++◌, length, map, take, Option, Some, None, refl, sym, ap, ◌∙◌, subst, arith}
 use Rattle.std.specs.Prelude.{if◌then◌else◌, ◌==◌, slice_get, bytes_eq, is_some}
 use Rattle.std.specs.List.{list_all}
 use Rattle.std.proofs.lemmas.Bool.{false≢true, and_from, and_parts, lt-ltb, ltb-true}
 use Rattle.std.proofs.lemmas.List.{length-map}
 use Rattle.std.proofs.lemmas.List.Folds.{list_all-append}
-use Rattle.std.proofs.lemmas.Option.{slice_get_within}
 use Rattle.osl_value.specs.declared.types.Base.TheVariants.{Closure}
 use Rattle.osl_value.specs.Types.{same_base}
-use Rattle.osl_value.specs.declared.types.Ty.{Ty}
 use Rattle.osl_overload.specs.Kinds.{same_kind}
 use Rattle.osl_overload.specs.declared.signature.Formal.{Formal}
 use Rattle.osl_overload.specs.declared.signature.Kind.{Kind}
@@ -20,23 +18,22 @@ use Rattle.osl_tree.specs.declared.tree.Definition.TheVariants as definitions
 use Rattle.osl_tree.specs.declared.tree.Fields.{Fields}
 use Rattle.osl_tree.specs.declared.tree.Function.{Function}
 use Rattle.osl_tree.specs.declared.tree.Structure as structure_tree
-use Rattle.osl_typed.specs.declared.expr.Root.TheVariants as root
 use Rattle.osl_typed.specs.declared.found.Callee.TheVariants.{Declared}
 use Rattle.osl_typed.specs.declared.shader.TypedFunction.{TypedFunction}
 use Rattle.osl_typed.specs.declared.shader.TypedShader.{TypedShader}
 use Rattle.osl_typed.specs.declared.shader.TypedStructure.{TypedStructure}
 use Rattle.osl_typed.specs.declared.stmt.TypedStmt.{TypedStmt}
 use Rattle.osl_typed.specs.Operators.{closure}
-use Rattle.osl_typed.specs.Scopes.{Scope, enter, outermost, FieldName, StructureName, field_named, structure_named, Candidate, Functions, with_function, Sight}
-use Rattle.osl_typed.specs.Typing.{◌>>=◌, when, formal_kinds}
+use Rattle.osl_typed.specs.Scopes.{Scope, enter, outermost, FieldName, StructureName, field_named, structure_named, Candidate, Functions, Sight}
+use Rattle.osl_typed.specs.Typing.{formal_kinds}
 use Rattle.osl_typed.specs.BodyTyping.{declared_kind, body_typed}
-use Rattle.osl_typed.specs.FileTyping.{Above, at_the_top, fields_added, lines_added, with_structure, structure_added, formals_added, result_kind, is_taken, with_typed, function_added, definition_added, definitions_added, kinds_of_fields}
-use Rattle.osl_welltyped.specs.Agreement.{IsDeclared, SightFits, NamesFit}
-use Rattle.osl_welltyped.specs.Kinded.{Rules, is_type, root_kind}
+use Rattle.osl_typed.specs.FileTyping.{Above, at_the_top, fields_added, lines_added, with_structure, structure_added, formals_added, result_kind, is_taken, with_typed, function_added, definitions_added, kinds_of_fields}
+use Rattle.osl_welltyped.specs.Agreement.{IsDeclared, NamesFit}
+use Rattle.osl_welltyped.specs.Kinded.{Rules}
 use Rattle.osl_welltyped.specs.StatementsFit.{body_fits, declared_in, are_numbered}
-use Rattle.osl_welltyped.specs.WellTyped.{field_fits, structures_fit, variable_fits, kinds_declared, IsFrame, kinds_of_formals, result_fits, is_output, may_write_in, rules_of_function, IsFunction}
-use Rattle.osl_welltyped.proofs.BodiesFit.{Extends, Fresh, Sees, Grows, kind_below, declared_below, at_end}
-use Rattle.osl_welltyped.proofs.FormalsFit.{globals_fit, Writes, FormalsGrow, formals_grow, Begins, begins_less, begins_at, begins_length, snoc_at, whole_frame}
+use Rattle.osl_welltyped.specs.WellTyped.{field_fits, structures_fit, variable_fits, kinds_declared, IsFrame, kinds_of_formals, result_fits, is_output, rules_of_function, IsFunction}
+use Rattle.osl_welltyped.proofs.BodiesFit.{Extends, Grows, kind_below, declared_below, at_end}
+use Rattle.osl_welltyped.proofs.FormalsFit.{globals_fit, FormalsGrow, formals_grow, Begins, begins_less, begins_at, begins_length, snoc_at, whole_frame}
 use Rattle.osl_welltyped.proofs.StatementsKeep.{body_keeps}
 use Rattle.osl_welltyped.proofs.Steps.{none_is_not, some_same, bound, held}
 
@@ -74,9 +71,9 @@ fields_fit structures type (item ∷ items) fields after fit h =
     let t = held (not (same_kind kind.value closure) && not (is_some (field_named 0 fields item.name))) _ after kind.goes in
     let p = and_parts (not (same_kind kind.value closure)) (not (is_some (field_named 0 fields item.name))) (t.0) in
     fields_fit structures type items (fields ++ record { name = item.name; kind = kind.value } ∷ []) after
-      (ap (list_all (field_fits (length structures))) (map_snoc (λ (f : FieldName). f.kind) fields (record { name = item.name; kind = kind.value }))
-      ∙ all_snoc (field_fits (length structures)) (kinds_of_names fields) kind.value fit (field_sound (length structures) kind.value (declared_below structures type item.len kind.value kind.was) (p.0)))
-      (t.1)
+    (ap (list_all (field_fits (length structures))) (map_snoc (λ (f : FieldName). f.kind) fields (record { name = item.name; kind = kind.value }))
+    ∙ all_snoc (field_fits (length structures)) (kinds_of_names fields) kind.value fit (field_sound (length structures) kind.value (declared_below structures type item.len kind.value kind.was) (p.0)))
+    (t.1)
 
 lines_fit : (structures : List StructureName) (lines : List Fields) (fields after : List FieldName) → FieldsFit (length structures) fields → lines_added structures lines fields ≡ Some after → FieldsFit (length structures) after
 unfolding lines_added
@@ -116,7 +113,7 @@ structure_kept structure above next fits h =
     let z : 0 + length (structures_above above) ≡ length above.sight.structures = let m = length-map above.sight.structures kinds_of_fields in omega arith in
     subst AboveFits (some_same _ next fields.goes) (record {
       structures = ap (structures_fit 0) snoc ∙ structures_snoc 0 (structures_above above) (kinds_of_fields s) fits.structures
-        (ap (λ n. list_all (field_fits n) (kinds_of_fields s).fields) z ∙ lines_fit above.sight.structures structure.fields [] fields.value refl fields.was);
+          (ap (λ n. list_all (field_fits n) (kinds_of_fields s).fields) z ∙ lines_fit above.sight.structures structure.fields [] fields.value refl fields.was);
       functions = λ n f at t begins functions. fits.functions n f at t (begins_less (structures_above above) (kinds_of_fields s ∷ []) t.structures (subst (λ l. Begins l t.structures) snoc begins)) functions;
       called = fits.called;
     })
@@ -149,7 +146,7 @@ frame_fits sight structures begin formals before mid after body test none same l
       kinds = all;
       numbers = ap (λ (l : List Kind). are_numbered (length l) (declared_in body)) (sym start) ∙ g.numbers;
       fit = ap (list_all (variable_fits structures)) all ∙ list_all-append (variable_fits structures) (kinds_of_formals formals) (kinds_declared (declared_in body))
-        ∙ and_from _ _ (all_sound structures (length sight.structures) (kinds_of_formals formals) le fs.sound) (all_sound structures (length sight.structures) (kinds_declared (declared_in body)) le g.sound);
+          ∙ and_from _ _ (all_sound structures (length sight.structures) (kinds_of_formals formals) le fs.sound) (all_sound structures (length sight.structures) (kinds_declared (declared_in body)) le g.sound);
     }
 
 -- variables behind the formal parameters may be assigned, and outputs
@@ -199,7 +196,7 @@ function_one above f result formals before after body fits is fs g t structures 
     let extends : Extends rules after.kinds = whole_frame rules after.kinds refl refl in
     let first : Extends rules before.kinds = λ k kind at. extends k kind (begins_at before.kinds after.kinds k kind (record { rest = kinds_declared (declared_in body); is = g.kinds }) at) in
     let names : NamesFit rules before.bindings = fs.names rules (globals_fit rules (λ g. false) (λ g no_write. absurd (false≢true no_write))) first
-      (λ k formal at out. let z : 0 + k ≡ k = omega arith in ap (λ j. is_output (slice_get formals j)) z ∙ ap is_output at ∙ out) in
+    (λ k formal at out. let z : 0 + k ≡ k = omega arith in ap (λ j. is_output (slice_get formals j)) z ∙ ap is_output at ∙ out) in
     record {
       result = is.fits t.structures structures;
       frame = frame;
@@ -245,11 +242,11 @@ function_kept f above next fits h =
     subst AboveFits (some_same _ next body.goes) (record {
       structures = fits.structures;
       functions = λ n g at t begins functions.
-        let before = begins_less above.functions (typed ∷ []) t.functions functions in
-        elim (snoc_at above.functions typed n g at) [
-          | inl old ↦ fits.functions n g old t begins before
-          | inr last ↦ subst (λ k. IsFunction t k g) (sym (last.0)) (subst (IsFunction t (length above.functions)) (last.1) (made t begins before))
-        ];
+          let before = begins_less above.functions (typed ∷ []) t.functions functions in
+          elim (snoc_at above.functions typed n g at) [
+            | inl old ↦ fits.functions n g old t begins before
+            | inr last ↦ subst (λ k. IsFunction t k g) (sym (last.0)) (subst (IsFunction t (length above.functions)) (last.1) (made t begins before))
+          ];
       called = function_called above f.name typed fits.called;
     })
 

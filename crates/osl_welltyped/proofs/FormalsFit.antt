@@ -1,9 +1,8 @@
 -- Global variables, formal parameters and parameters: what a body's scope begins with.
-use Rattle.std.proofs.Common.{◌≡◌, ℕ, zero, suc, ◌+◌, ◌<◌, ◌≤◌, Bool, true, false, not, ◌&&◌, ◌⊎◌, inl, inr, List, [], ◌∷◌, ◌++◌, length, map, nat_lt, Option, Some, None, refl, sym, ap, ◌∙◌, subst, arith, append_assoc, length-append}
+use Rattle.std.proofs.Common.{◌≡◌, ℕ, zero, suc, ◌+◌, ◌<◌, ◌≤◌, Bool, true, false, not, ◌⊎◌, inl, inr, List, [], ◌∷◌, ◌++◌, length, map, nat_lt, Some, None, refl, sym, ap, ◌∙◌, subst, arith, append_assoc, length-append}
 use Rattle.std.specs.Prelude.{if◌then◌else◌, slice_get, bytes_eq}
 use Rattle.std.specs.List.{list_all}
-use Rattle.std.proofs.lemmas.Bool.{false≢true, and_from, and_parts, lt-ltb}
-use Rattle.std.proofs.lemmas.List.{length-map}
+use Rattle.std.proofs.lemmas.Bool.{and_from, lt-ltb}
 use Rattle.std.proofs.lemmas.Option.{slice_get_within}
 use Rattle.osl_layer.specs.declared.global.GlobalName.{GlobalName}
 use Rattle.osl_layer.specs.Globals.{all_globals}
@@ -13,11 +12,10 @@ use Rattle.osl_tree.specs.declared.tree.Formal as formal_tree
 use Rattle.osl_typed.specs.declared.expr.Root.TheVariants as root
 use Rattle.osl_typed.specs.declared.found.Binding.{Binding}
 use Rattle.osl_typed.specs.Scopes.{Scope, StructureName, look, is_here, with_variable, global_binding}
-use Rattle.osl_typed.specs.Typing.{◌>>=◌, when}
 use Rattle.osl_typed.specs.BodyTyping.{declared_kind}
 use Rattle.osl_typed.specs.FileTyping.{formals_added}
 use Rattle.osl_welltyped.specs.Agreement.{IsBound, NamesFit}
-use Rattle.osl_welltyped.specs.Kinded.{Rules, root_kind}
+use Rattle.osl_welltyped.specs.Kinded.{Rules}
 use Rattle.osl_welltyped.specs.WellTyped.{kinds_of_formals}
 use Rattle.osl_welltyped.proofs.BodiesFit.{Extends, kind_below, declared_below, with_name, at_front}
 use Rattle.osl_welltyped.proofs.CallsFit.{append_none}
@@ -59,10 +57,10 @@ formals_more count name kind output scope after formals below rest = record {
   kinds = rest.kinds ∙ append_assoc scope.kinds (kind ∷ []) (kinds_of_formals formals);
   sound = and_from _ _ below rest.sound;
   names = λ rules names extends writes.
-    let one : Extends rules (scope.kinds ++ kind ∷ []) = λ k kd at. extends k kd (ap (λ (l : List Kind). slice_get l k) rest.kinds ∙ at_front (scope.kinds ++ kind ∷ []) (kinds_of_formals formals) k kd at) in
-    let z : length scope.kinds + 0 ≡ length scope.kinds = omega arith in
-    let first = with_name rules name kind output scope names one (λ is. ap (λ j. rules.may_write (root.Variable j)) (sym z) ∙ writes 0 (record { kind = kind; output = output }) refl is) in
-    rest.names rules first extends (λ k formal at is.
+      let one : Extends rules (scope.kinds ++ kind ∷ []) = λ k kd at. extends k kd (ap (λ (l : List Kind). slice_get l k) rest.kinds ∙ at_front (scope.kinds ++ kind ∷ []) (kinds_of_formals formals) k kd at) in
+      let z : length scope.kinds + 0 ≡ length scope.kinds = omega arith in
+      let first = with_name rules name kind output scope names one (λ is. ap (λ j. rules.may_write (root.Variable j)) (sym z) ∙ writes 0 (record { kind = kind; output = output }) refl is) in
+      rest.names rules first extends (λ k formal at is.
       let long : length (scope.kinds ++ kind ∷ []) ≡ length scope.kinds + 1 = length-append scope.kinds (kind ∷ []) in
       let e : length (scope.kinds ++ kind ∷ []) + k ≡ length scope.kinds + suc k = omega arith in
       ap (λ j. rules.may_write (root.Variable j)) e ∙ writes (suc k) formal at is);
@@ -76,9 +74,9 @@ formals_grow structures (formal ∷ formals) scope r h =
     let t = held (not (is_here formal.item.name scope)) _ r kind.goes in
     let rest = bound (formals_added structures formals (with_variable formal.item.name kind.value formal.output scope)) _ r (t.1) in
     subst (λ (r : List Formal × Scope). FormalsGrow (length structures) scope (r.0) (r.1))
-      (some_same {A = List Formal × Scope} (record { kind = kind.value; output = formal.output } ∷ rest.value.0, rest.value.1) r rest.goes)
-      (formals_more (length structures) formal.item.name kind.value formal.output scope (rest.value.1) (rest.value.0) (declared_below structures formal.ty formal.item.len kind.value kind.was)
-        (formals_grow structures formals (with_variable formal.item.name kind.value formal.output scope) rest.value rest.was))
+    (some_same {A = List Formal × Scope} (record { kind = kind.value; output = formal.output } ∷ rest.value.0, rest.value.1) r rest.goes)
+    (formals_more (length structures) formal.item.name kind.value formal.output scope (rest.value.1) (rest.value.0) (declared_below structures formal.ty formal.item.len kind.value kind.was)
+    (formals_grow structures formals (with_variable formal.item.name kind.value formal.output scope) rest.value rest.was))
 
 -- ---- lists that begin others
 

@@ -1,14 +1,14 @@
 -- What typing knows of an expression, against the rules of well formed trees; and what its tree is by them.
-use Rattle.std.proofs.Common.{◌≡◌, ℕ, zero, suc, ◌+◌, ◌<◌, Bool, true, false, not, ◌&&◌, ◌||◌, nat_lt, List, [], ◌∷◌, ◌++◌, length, map, Option, Some, None, refl, sym, ap, ◌∙◌, subst, arith}
+use Rattle.std.proofs.Common.{◌≡◌, ℕ, zero, suc, ◌+◌, ◌<◌, Bool, true, false, not, ◌&&◌, nat_lt, List, length, map, Option, Some, None, refl, sym, ap, ◌∙◌, subst, arith}
 use Rattle.std.specs.Prelude.{if◌then◌else◌, ◌==◌, is_some}
 use Rattle.std.specs.List.{list_all}
-use Rattle.std.proofs.lemmas.Bool.{false≢true, and_parts, and_from, or_left, or_right, eqb-true}
+use Rattle.std.proofs.lemmas.Bool.{false≢true, and_parts, and_from, or_left, eqb-true}
 use Rattle.std.proofs.lemmas.List.{length-map}
 use Rattle.osl_value.specs.declared.types.Base.{Base}
 use Rattle.osl_value.specs.declared.types.Base.TheVariants.{Int, Float, Color, Point, Vector, Normal, Matrix, Str, Closure}
 use Rattle.osl_value.specs.declared.types.Ty.{Ty}
 use Rattle.osl_value.specs.AnyValue.{is_one_triple}
-use Rattle.osl_value.specs.Types.{only, is_only, is_triple}
+use Rattle.osl_value.specs.Types.{only, is_triple}
 use Rattle.osl_overload.specs.Cost.{cost, promotion, promotion_of, is_spatial}
 use Rattle.osl_overload.specs.Kinds.{same_kind}
 use Rattle.osl_overload.specs.declared.signature.Kind.{Kind}
@@ -23,11 +23,11 @@ use Rattle.osl_typed.specs.declared.found.Found.{Found}
 use Rattle.osl_typed.specs.declared.shader.TypedStructure.{TypedStructure}
 use Rattle.osl_typed.specs.Operators.{int, float, closure}
 use Rattle.osl_typed.specs.Selections.{part_kind, kind_at, selected_type, component_count}
-use Rattle.osl_typed.specs.Typing.{◌>>=◌, indexed_type, tree_of, tree_of_form, fit, fit_at, promotion_to}
-use Rattle.osl_welltyped.specs.Kinded.{Rules, is_kind, is_int, led_to, selects, component_fits, kind_selects, part_fits, promotes, root_kind, read_fits, kinded}
-use Rattle.osl_welltyped.proofs.Steps.{none_is_not, some_same, bound, is_kind_is, kind_is, only_if_so, same_kind-true}
+use Rattle.osl_typed.specs.Typing.{◌>>=◌, indexed_type, tree_of, tree_of_form, fit, fit_at}
+use Rattle.osl_welltyped.specs.Kinded.{Rules, is_int, led_to, component_fits, kind_selects, promotes, root_kind, read_fits, kinded}
+use Rattle.osl_welltyped.proofs.Steps.{none_is_not, some_same, bound, kind_is, only_if_so, same_kind-true}
 use Rattle.osl_welltyped.proofs.KindedLaws.{kinded-Variable, kinded-PartOf, kinded-Promote}
-use Rattle.osl_welltyped.proofs.Reached.{reached, reached_more, reached_ends, Ends}
+use Rattle.osl_welltyped.proofs.Reached.{reached, reached_more, reached_ends}
 
 -- ---- tests of three
 
@@ -167,7 +167,7 @@ place_read rules root writable part indices kind f =
     let s = selected_of part.kind (length indices) part.component kind f.leads.selected in
     record {
       fits = three _ _ _ (kind_is part.kind _ (ap (λ o. led_to rules.structures o part.fields) f.rooted ∙ f.leads.fields)) f.ints
-        (ap (λ n. kind_selects part.kind n part.component) (length-map indices (kinded rules)) ∙ s.selects);
+          (ap (λ n. kind_selects part.kind n part.component) (length-map indices (kinded rules)) ∙ s.selects);
       kind_is = same_count rules part indices ∙ s.kind_is;
       plain = s.kind_is;
     }
@@ -179,7 +179,7 @@ form_tree rules (Place root writable part indices) kind f =
 form_tree rules (Piece from a part indices) kind f =
     let s = selected_of part.kind (length indices) part.component kind f.leads.selected in
     kinded-PartOf rules from a part indices ∙ only_if_so _ _ (and_from _ _ (kind_is from (kinded rules a) f.holds)
-      (three _ _ _ (kind_is part.kind _ f.leads.fields) f.ints (ap (λ n. kind_selects part.kind n part.component) (length-map indices (kinded rules)) ∙ s.selects)))
+    (three _ _ _ (kind_is part.kind _ f.leads.fields) f.ints (ap (λ n. kind_selects part.kind n part.component) (length-map indices (kinded rules)) ∙ s.selects)))
     ∙ ap Some (same_count rules part indices ∙ s.kind_is)
 form_tree rules (Whole a) kind f = f.holds
 
@@ -219,8 +219,8 @@ promoted_fits rules Void Void tree x n holds p h = none_is_not n p
 zero_fits : (rules : Rules) (kind : Kind) (tree x : TypedExpr) → kinded rules tree ≡ Some int → kind ≡ closure → fit_at kind tree (Some 3) ≡ Some x → kinded rules x ≡ Some kind
 zero_fits rules kind tree x holds is h =
     subst (λ k. fit_at k tree (Some 3) ≡ Some x → kinded rules x ≡ Some k) (sym is) (λ g.
-      ap (kinded rules) (sym (some_same (e.Promote (only Closure) tree) x g)) ∙ kinded-Promote rules (only Closure) tree
-      ∙ only_if_so (promotes (only Closure) (kinded rules tree)) closure (ap (promotes (only Closure)) holds)) h
+    ap (kinded rules) (sym (some_same (e.Promote (only Closure) tree) x g)) ∙ kinded-Promote rules (only Closure) tree
+    ∙ only_if_so (promotes (only Closure) (kinded rules tree)) closure (ap (promotes (only Closure)) holds)) h
 
 by_cost : (rules : Rules) (kind k : Kind) (zero_literal : Bool) (tree x : TypedExpr) → kinded rules tree ≡ Some k → (zero_literal ≡ true → k ≡ int)
     → fit_at kind tree (cost (record { kind = k; zero_literal = zero_literal; writable = false }) kind) ≡ Some x → kinded rules x ≡ Some kind
@@ -229,7 +229,7 @@ by_cost rules kind k zero_literal tree x holds zero_is =
       | true ↦ λ same h. ap (kinded rules) (sym (some_same tree x h)) ∙ holds ∙ ap Some (same_kind-true k kind same)
       | false ↦ λ other. elim (zero_literal && same_kind kind closure) as (λ u. (zero_literal && same_kind kind closure) ≡ u → fit_at kind tree (if u then Some 3 else promotion_of k kind) ≡ Some x → kinded rules x ≡ Some kind) [
         | true ↦ λ both h. let p = and_parts zero_literal (same_kind kind closure) both in
-          zero_fits rules kind tree x (holds ∙ ap Some (zero_is (p.0))) (same_kind-true kind closure (p.1)) h
+            zero_fits rules kind tree x (holds ∙ ap Some (zero_is (p.0))) (same_kind-true kind closure (p.1)) h
         | false ↦ λ neither. elim (promotion_of k kind) as (λ o. promotion_of k kind ≡ o → fit_at kind tree o ≡ Some x → kinded rules x ≡ Some kind) [
           | None ↦ λ was h. none_is_not x h
           | Some n ↦ λ was h. promoted_fits rules kind k tree x n holds was h

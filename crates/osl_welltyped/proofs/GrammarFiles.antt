@@ -1,6 +1,6 @@
 -- What a tree spells bounds the measures of its statements and of all that a source holds; names are names of the tokens.
-use Rattle.std.proofs.Common.{◌≡◌, ℕ, zero, suc, ◌+◌, ◌≤◌, max, List, [], ◌∷◌, ◌++◌, map, Option, Some, None, refl, sym, ap, ◌∙◌, subst, arith}
-use Rattle.std.specs.Prelude.{Bool, true, false, slice_get}
+use Rattle.std.proofs.Common.{◌≡◌, ℕ, zero, suc, ◌+◌, ◌≤◌, max, List, [], ◌∷◌, ◌++◌, Option, Some, refl, sym, subst, arith}
+use Rattle.std.specs.Prelude.{Bool, false, slice_get}
 use Rattle.osl_tree.specs.Lexeme.{Lexeme}
 use Rattle.osl_tree.specs.Lexeme as l
 use Rattle.osl_tree.specs.Terminals.{sign, key}
@@ -23,16 +23,14 @@ use Rattle.osl_tree.specs.declared.stmt.Var.{Var}
 use Rattle.osl_tree.specs.declared.tree.Datum.{Datum}
 use Rattle.osl_tree.specs.declared.tree.Definition.{Definition}
 use Rattle.osl_tree.specs.declared.tree.Definition.TheVariants as definitions
-use Rattle.osl_tree.specs.declared.tree.Fields.{Fields}
 use Rattle.osl_tree.specs.declared.tree.Function.{Function}
 use Rattle.osl_tree.specs.declared.tree.Param.{Param}
 use Rattle.osl_tree.specs.declared.tree.Shader.{Shader}
-use Rattle.osl_tree.specs.declared.tree.Structure as structure_tree
 use Rattle.osl_tree.specs.declared.tree.Tree.{Tree}
-use Rattle.osl_welltyped.specs.Measures.{Measure, greatest_of}
+use Rattle.osl_welltyped.specs.Measures.{Measure}
 use Rattle.osl_welltyped.proofs.Measured.{IsMeasure, source_measured}
 use Rattle.osl_welltyped.proofs.MeasuredBodies.{all_sources, source_init, source_begun, source_vars, source_declaration, source_maybe, source_start, source_stmt, source_body}
-use Rattle.osl_welltyped.proofs.GrammarLow.{LiteralsLow, low_left, low_right, IsHeightBound, LowAt, node_at, leaf_at, up, two_at, base_some, expr_low, exprs_low, source-stmt-Empty, source-stmt-Block, source-stmt-Declare, source-stmt-Expr, source-stmt-Break, source-stmt-Continue, source-stmt-Return, source-stmt-If, source-stmt-If-else, source-stmt-While, source-stmt-DoWhile, source-stmt-For}
+use Rattle.osl_welltyped.proofs.GrammarLow.{LiteralsLow, low_left, low_right, IsHeightBound, LowAt, node_at, up, two_at, base_some, expr_low, exprs_low, source-stmt-Empty, source-stmt-Block, source-stmt-Declare, source-stmt-Expr, source-stmt-Break, source-stmt-Continue, source-stmt-Return, source-stmt-If, source-stmt-If-else, source-stmt-While, source-stmt-DoWhile, source-stmt-For}
 use Rattle.osl_welltyped.proofs.Steps.{none_is_not, some_same}
 
 -- ---- lists
@@ -243,9 +241,10 @@ module _ (m : Measure) (is : IsMeasure m) (top : ℕ → ℕ) (b : IsHeightBound
 
   param_low : (x : Param) (a : List Lexeme) (h k : ℕ) → IsParam x a h → L a → h ≤ k → BothWithin (top k) x
   param_low x e n k (f.param {h = h} {i = i} {j = j} {k = kk} {y = init} {zs = zs} {a = a} {b = q} {c = c} {d = d} output u v s r) t le =
-      let front = left (output_word output ++ a ++ q ++ sign p.Assign ∷ c) d t in
-      (higher _ j k (init_low init c j s (right (output_word output ++ a ++ q) (sign p.Assign ∷ c) front).1) (omega arith),
-      metadata_low zs d kk k r (right (output_word output ++ a ++ q ++ sign p.Assign ∷ c) d t) (omega arith))
+      let front = left (output_word output ++ a ++ q ++ sign p.Assign ∷ c) d t in (
+        higher _ j k (init_low init c j s (right (output_word output ++ a ++ q) (sign p.Assign ∷ c) front).1) (omega arith),
+        metadata_low zs d kk k r (right (output_word output ++ a ++ q ++ sign p.Assign ∷ c) d t) (omega arith),
+      )
 
   params_low : (xs : List Param) (a : List Lexeme) (h k : ℕ) → AreListed IsParam xs a h → L a → h ≤ k → AllOf (BothWithin (top k)) xs
   params_low xs a h k (y.last {x = x} u) t le = (param_low x a h k u t le, tt)
@@ -288,6 +287,7 @@ module _ (m : Measure) (is : IsMeasure m) (top : ℕ → ℕ) (b : IsHeightBound
       (record { functions = tt; params = first_of (top k) shader.params s.params; body = s.body }, record { shader = s.metadata; params = second_of (top k) shader.params s.params })
   tree_low x d n k (f.with_definitions {h = h} {i = i} {j = j} {d = one} {ds = ds} {x = shader} {a = a} {b = q} {c = c} u v r) t le =
       let front = left (a ++ q) c t in
-      let s = shader_low shader c j k r (right (a ++ q) c t) (omega arith) in
-      (record { functions = (definition_low one a h k u (left a q front) (omega arith), definitions_low ds q i k v (right a q front) (omega arith)); params = first_of (top k) shader.params s.params; body = s.body },
-      record { shader = s.metadata; params = second_of (top k) shader.params s.params })
+      let s = shader_low shader c j k r (right (a ++ q) c t) (omega arith) in (
+        record { functions = (definition_low one a h k u (left a q front) (omega arith), definitions_low ds q i k v (right a q front) (omega arith)); params = first_of (top k) shader.params s.params; body = s.body },
+        record { shader = s.metadata; params = second_of (top k) shader.params s.params },
+      )

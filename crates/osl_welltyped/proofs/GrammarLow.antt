@@ -1,6 +1,6 @@
 -- What a tree spells bounds its measure: by its height, and by the literals among its tokens.
-use Rattle.std.proofs.Common.{◌≡◌, ℕ, zero, suc, ◌+◌, ◌≤◌, max, List, [], ◌∷◌, ◌++◌, map, Option, Some, None, refl, sym, ap, ◌∙◌, subst, arith}
-use Rattle.std.specs.Prelude.{ℤ, Bool, true, false}
+use Rattle.std.proofs.Common.{◌≡◌, ℕ, ◌+◌, ◌≤◌, max, List, [], ◌∷◌, ◌++◌, map, Option, Some, None, sym, ap, ◌∙◌, subst, arith}
+use Rattle.std.specs.Prelude.{ℤ}
 use Rattle.osl_tree.specs.Lexeme.{Lexeme}
 use Rattle.osl_tree.specs.Lexeme as l
 use Rattle.osl_tree.specs.Grammar.{IsBase, IsExpr, IsUnary, IsPostfix, IsPrimary, AreArguments, AreExprs}
@@ -112,9 +112,9 @@ pub source-Assign : (m : Measure) (p : AssignOp) (a c : Expr) → source_measure
 unfolding source_measured
 source-Assign m p a c = ap (fold-Expr ℕ (source_step m)) (sym (e.rolls-Assign p a c)) ∙ fold-roll-Expr ℕ (source_step m) (o.Assign p a c)
 
-pub source-stmt-Empty : (m : Measure)  → source_stmt m s.Empty ≡ source_stmt_step m so.Empty
+pub source-stmt-Empty : (m : Measure) → source_stmt m s.Empty ≡ source_stmt_step m so.Empty
 unfolding source_stmt
-source-stmt-Empty m  = ap (fold-Stmt ℕ (source_stmt_step m)) (sym s.rolls-Empty) ∙ fold-roll-Stmt ℕ (source_stmt_step m) so.Empty
+source-stmt-Empty m = ap (fold-Stmt ℕ (source_stmt_step m)) (sym s.rolls-Empty) ∙ fold-roll-Stmt ℕ (source_stmt_step m) so.Empty
 
 pub source-stmt-Block : (m : Measure) (all : List Stmt) → source_stmt m (s.Block all) ≡ source_stmt_step m (so.Block (map (source_stmt m) all))
 unfolding source_stmt
@@ -128,13 +128,13 @@ pub source-stmt-Expr : (m : Measure) (a : Expr) → source_stmt m (s.Expr a) ≡
 unfolding source_stmt
 source-stmt-Expr m a = ap (fold-Stmt ℕ (source_stmt_step m)) (sym (s.rolls-Expr a)) ∙ fold-roll-Stmt ℕ (source_stmt_step m) (so.Expr a)
 
-pub source-stmt-Break : (m : Measure)  → source_stmt m s.Break ≡ source_stmt_step m so.Break
+pub source-stmt-Break : (m : Measure) → source_stmt m s.Break ≡ source_stmt_step m so.Break
 unfolding source_stmt
-source-stmt-Break m  = ap (fold-Stmt ℕ (source_stmt_step m)) (sym s.rolls-Break) ∙ fold-roll-Stmt ℕ (source_stmt_step m) so.Break
+source-stmt-Break m = ap (fold-Stmt ℕ (source_stmt_step m)) (sym s.rolls-Break) ∙ fold-roll-Stmt ℕ (source_stmt_step m) so.Break
 
-pub source-stmt-Continue : (m : Measure)  → source_stmt m s.Continue ≡ source_stmt_step m so.Continue
+pub source-stmt-Continue : (m : Measure) → source_stmt m s.Continue ≡ source_stmt_step m so.Continue
 unfolding source_stmt
-source-stmt-Continue m  = ap (fold-Stmt ℕ (source_stmt_step m)) (sym s.rolls-Continue) ∙ fold-roll-Stmt ℕ (source_stmt_step m) so.Continue
+source-stmt-Continue m = ap (fold-Stmt ℕ (source_stmt_step m)) (sym s.rolls-Continue) ∙ fold-roll-Stmt ℕ (source_stmt_step m) so.Continue
 
 pub source-stmt-Return : (m : Measure) (a : Option Expr) → source_stmt m (s.Return a) ≡ source_stmt_step m (so.Return a)
 unfolding source_stmt
@@ -206,7 +206,7 @@ module _ (m : Measure) (is : IsMeasure m) (top : ℕ → ℕ) (b : IsHeightBound
         let one = f.some in
         let two = r.some in
         node_at _ (max (sm x) (max (sm y) (sm z))) (max h (max i j)) (source-Choice m x y z) (omega arith)
-          (two_at (sm x) (max (sm y) (sm z)) h (max i j) f (record { some = omega arith; low = two_at (sm y) (sm z) i j r o }))
+        (two_at (sm x) (max (sm y) (sm z)) h (max i j) f (record { some = omega arith; low = two_at (sm y) (sm z) i j r o }))
     expr_low k z d n (g.assign {h = h} {i = i} {x = x} {y = y} {a = a} {b = c} terminal p is lv u v) t =
         let f = unary_low x a h u (low_left m (top 1) a (l.terminal terminal ∷ c) t) in
         let r = expr_low 0 y c i v (low_right m (top 1) a (l.terminal terminal ∷ c) t).1 in

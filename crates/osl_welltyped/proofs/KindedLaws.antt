@@ -1,6 +1,6 @@
 -- The kind of each node of an expression, from the kinds of its parts.
 use Rattle.std.proofs.Common.{◌≡◌, ℕ, sym, ap, ◌∙◌}
-use Rattle.std.specs.Prelude.{ℤ, List, map, Option, Bool}
+use Rattle.std.specs.Prelude.{ℤ, List, map, Option}
 use Rattle.osl_value.specs.declared.op_name.OpName.{OpName}
 use Rattle.osl_value.specs.declared.types.Ty.{Ty}
 use Rattle.osl_overload.specs.declared.signature.Formal.{Formal}

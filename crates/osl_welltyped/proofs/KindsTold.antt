@@ -1,5 +1,5 @@
 -- The kind of a well formed expression is what its outermost node tells.
-use Rattle.std.proofs.Common.{◌≡◌, Bool, true, false, List, Option, Some, None, refl, sym, ap, ◌∙◌, subst, map, ◌+◌}
+use Rattle.std.proofs.Common.{◌≡◌, Bool, true, false, List, Option, Some, sym, ap, ◌∙◌, map, ◌+◌}
 use Rattle.std.proofs.lemmas.List.{length-map}
 use Rattle.osl_overload.specs.declared.signature.Formal.{Formal}
 use Rattle.osl_overload.specs.declared.signature.Kind.{Kind}

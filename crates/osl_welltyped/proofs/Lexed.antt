@@ -1,12 +1,12 @@
 -- What the tokens of a source are: names are words, and numbers are in range.
-use Rattle.std.proofs.Common.{◌≡◌, ℕ, zero, suc, ◌+◌, ◌<◌, ◌≤◌, ◌^◌, max, Bool, true, false, List, [], ◌∷◌, ◌++◌, map, Option, Some, None, refl, sym, ap, ◌∙◌, subst, arith, rules}
-use Rattle.std.specs.Prelude.{FitsSigned, ℤ, pos, negsuc, slice_range, if◌then◌else◌}
+use Rattle.std.proofs.Common.{◌≡◌, ℕ, ◌<◌, ◌≤◌, ◌^◌, Bool, true, List, [], ◌∷◌, Option, Some, None, ap, arith, rules}
+use Rattle.std.specs.Prelude.{FitsSigned, ℤ, pos, negsuc}
 use Rattle.std.specs.Int.{w32, cast_signed}
 use Rattle.std.specs.Str.Parse.{digits_value}
 use Rattle.std.proofs.lemmas.Bool.{lt-ltb, le-leb}
 use Rattle.osl_tree.specs.Lexeme.{Lexeme}
 use Rattle.osl_tree.specs.Lexeme as l
-use Rattle.osl_tree.specs.Lexemes.{lexeme, lexeme_of, lexemes, named, reserved}
+use Rattle.osl_tree.specs.Lexemes.{lexeme_of, lexemes, named, reserved}
 use Rattle.osl_tree.specs.Lexical.{IsWord, IsToken, IsTokenAt, Runs, Tokens}
 use Rattle.osl_tree.specs.Lexical as x
 use Rattle.osl_tree.specs.Numbers.{IsInt, IsFloat}
@@ -14,9 +14,9 @@ use Rattle.osl_tree.specs.Numbers as n
 use Rattle.osl_tree.specs.declared.terminal.Keyword.{Keyword}
 use Rattle.osl_tree.specs.declared.token.Token.{Token}
 use Rattle.osl_tree.specs.declared.token.TokenKind.{TokenKind}
-use Rattle.osl_welltyped.specs.Measures.{Measure, by_height, by_text, by_fault, fits_int, fits_float, fault_unless}
+use Rattle.osl_welltyped.specs.Measures.{by_height, by_text, by_fault, fits_int, fits_float, fault_unless}
 use Rattle.osl_welltyped.proofs.GrammarFiles.{AllOf}
-use Rattle.osl_welltyped.proofs.GrammarLow.{LiteralLow, LiteralsLow, IsHeightBound}
+use Rattle.osl_welltyped.proofs.GrammarLow.{LiteralsLow, IsHeightBound}
 use Rattle.osl_welltyped.proofs.Measured.{IsMeasure}
 
 abbrev pub IsLexed : Lexeme → Type 0

@@ -1,6 +1,6 @@
 -- The longest name and the longest string of a source bound each of its names and strings.
-use Rattle.std.proofs.Common.{◌≡◌, ℕ, zero, suc, ◌+◌, ◌≤◌, max, List, [], ◌∷◌, ◌++◌, length, map, Option, Some, None, refl, sym, ap, ◌∙◌, subst, arith}
-use Rattle.osl_tree.specs.declared.expr.Expr.{Expr, Expr-F, fold-Expr, fold-roll-Expr, ind-Expr, roll-Expr}
+use Rattle.std.proofs.Common.{ℕ, ◌≤◌, max, List, [], ◌∷◌, length, map, Option, Some, None, sym, subst, arith}
+use Rattle.osl_tree.specs.declared.expr.Expr.{Expr, Expr-F, fold-roll-Expr, ind-Expr, roll-Expr}
 use Rattle.osl_tree.specs.declared.expr.Expr.TheFolds.{map-Expr}
 use Rattle.osl_tree.specs.declared.expr.Expr.TheOpen as o
 use Rattle.osl_tree.specs.declared.stmt.Declaration.{Declaration}
@@ -8,7 +8,7 @@ use Rattle.osl_tree.specs.declared.stmt.ForStart.{ForStart}
 use Rattle.osl_tree.specs.declared.stmt.ForStart.TheVariants as from
 use Rattle.osl_tree.specs.declared.stmt.Init.{Init}
 use Rattle.osl_tree.specs.declared.stmt.Init.TheVariants as begin
-use Rattle.osl_tree.specs.declared.stmt.Stmt.{Stmt, Stmt-F, fold-Stmt, fold-roll-Stmt, ind-Stmt, roll-Stmt}
+use Rattle.osl_tree.specs.declared.stmt.Stmt.{Stmt, Stmt-F, fold-roll-Stmt, ind-Stmt, roll-Stmt}
 use Rattle.osl_tree.specs.declared.stmt.Stmt.TheFolds.{map-Stmt}
 use Rattle.osl_tree.specs.declared.stmt.Stmt.TheOpen as s
 use Rattle.osl_tree.specs.declared.stmt.Var.{Var}

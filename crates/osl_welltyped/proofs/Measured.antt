@@ -1,6 +1,6 @@
 -- The measure of a typed expression is at most that of its source.
-use Rattle.std.proofs.Common.{◌≡◌, ℕ, zero, suc, ◌+◌, ◌<◌, ◌≤◌, max, Bool, true, false, not, ◌&&◌, ◌||◌, List, [], ◌∷◌, ◌++◌, length, map, Option, Some, None, refl, sym, ap, ◌∙◌, subst, arith}
-use Rattle.std.specs.Prelude.{ℤ, pos, if◌then◌else◌, ◌==◌, slice_get, bytes_eq}
+use Rattle.std.proofs.Common.{◌≡◌, ℕ, zero, suc, ◌≤◌, max, Bool, true, false, ◌&&◌, ◌||◌, List, [], ◌∷◌, ◌++◌, length, map, Option, Some, None, sym, ap, ◌∙◌, subst, arith}
+use Rattle.std.specs.Prelude.{pos, if◌then◌else◌, ◌==◌, slice_get}
 use Rattle.osl_value.specs.declared.op_name.OpName.{OpName}
 use Rattle.osl_value.specs.declared.op_name.OpName.TheVariants as op
 use Rattle.osl_value.specs.declared.types.Ty.{Ty}
@@ -24,7 +24,6 @@ use Rattle.osl_tree.specs.declared.expr.Expr.{Expr, Expr-F, fold-Expr, fold-roll
 use Rattle.osl_tree.specs.declared.expr.Expr.TheFolds.{map-Expr}
 use Rattle.osl_tree.specs.declared.expr.Expr.TheOpen as o
 use Rattle.osl_typed.specs.declared.expr.Argument.{Argument}
-use Rattle.osl_typed.specs.declared.expr.Argument.TheVariants.{In, Out}
 use Rattle.osl_typed.specs.declared.expr.Root.{Root}
 use Rattle.osl_typed.specs.declared.expr.Part.{Part}
 use Rattle.osl_typed.specs.declared.expr.Increment.{Increment}
@@ -40,7 +39,7 @@ use Rattle.osl_typed.specs.Choosing.{chosen, apart}
 use Rattle.osl_typed.specs.Operators as operators
 use Rattle.osl_typed.specs.Operators.{operation, operator_of, base_named, is_arithmetic, is_convertible, conversion_of}
 use Rattle.osl_typed.specs.Scopes.{look, field_named, StructureName, Candidate, Sight}
-use Rattle.osl_typed.specs.Typing.{◌>>=◌, when, sequence, expression, tree_of, tree_of_form, as_argument, root_of, fit, fit_at, name, index, indexed_kind, with_index, with_component, with_field, component_of, fields_of_structure, selected_by, field, plain_type, applied, stepped, whole_variable, prefixed, postfixed, converted, cast, trees, are_numbers, made_of, construct_from, construct, both_numbers, operated, joined_by, binary, common, choice, Target, target_form, set_to, updated_by, stored, assign, pass_to, pass_all, fit_all, formal_kinds, operation_call, called_as, longest, kinds_of, candidates, call, in_parens, int_literal, typing_step, found_form, typing}
+use Rattle.osl_typed.specs.Typing.{◌>>=◌, sequence, expression, tree_of, tree_of_form, as_argument, root_of, fit, fit_at, name, index, indexed_kind, with_index, with_component, with_field, component_of, fields_of_structure, selected_by, field, plain_type, applied, stepped, whole_variable, prefixed, postfixed, converted, cast, trees, are_numbers, made_of, construct_from, construct, operated, joined_by, binary, common, choice, Target, target_form, stored, assign, pass_to, pass_all, fit_all, formal_kinds, operation_call, called_as, longest, kinds_of, candidates, call, typing_step, found_form, typing}
 use Rattle.osl_welltyped.specs.Measures.{Measure, greatest_of, place_measured, measured, argument_measured}
 use Rattle.osl_welltyped.proofs.MeasureLaws.{measured-Int, measured-Float, measured-Text, measured-Variable, measured-PartOf, measured-Paren, measured-Promote, measured-Apply, measured-And, measured-Or, measured-Choose, measured-Assign, measured-Update, measured-Step, measured-Call, measured-Exit, measured-In, measured-Out}
 use Rattle.osl_welltyped.proofs.Steps.{none_is_not, some_same, bound, held}
@@ -460,7 +459,7 @@ module _ (m : Measure) (is : IsMeasure m) where
       unfolding found_form source_measured
       layer_low l =
           subst (λ (h : ℕ). Low (found_form sight bindings (roll-Expr (map-Expr Y Expr tree l))) h) (sym (fold-roll-Expr ℕ (source_step m) (map-Expr Y Expr tree l)))
-            (subst (λ (x : Option Found). Low x (source_step m (map-Expr Expr ℕ (source_measured m) (map-Expr Y Expr tree l)))) (sym (fold-roll-Expr (Option Found) (typing_step sight bindings) (map-Expr Y Expr tree l))) (step_low l))
+          (subst (λ (x : Option Found). Low x (source_step m (map-Expr Expr ℕ (source_measured m) (map-Expr Y Expr tree l)))) (sym (fold-roll-Expr (Option Found) (typing_step sight bindings) (map-Expr Y Expr tree l))) (step_low l))
 
     pub form_low : (x : Expr) (a : Found) → found_form sight bindings x ≡ Some a → IsLow a (source_measured m x)
     form_low x = ind-Expr (λ x. Low (found_form sight bindings x) (source_measured m x)) (λ l y same. subst (λ z. Low (found_form sight bindings (roll-Expr z)) (source_measured m (roll-Expr z))) same (layer_low _ (λ w. w.0) (λ w. w.1) y)) x

@@ -1,8 +1,6 @@
 -- The measures of typed initialisers, statements, functions and shaders are at most those of their sources.
-use Rattle.std.proofs.Common.{◌≡◌, ℕ, zero, suc, ◌+◌, ◌<◌, ◌≤◌, max, Bool, true, false, not, ◌&&◌, ◌⊎◌, inl, inr, List, [], ◌∷◌, ◌++◌, flat_map, length, map, Option, Some, None, refl, sym, ap, ◌∙◌, subst, arith}
-use Rattle.std.specs.Prelude.{slice_get, is_some}
+use Rattle.std.proofs.Common.{◌≡◌, ℕ, ◌≤◌, max, Bool, true, false, not, List, [], ◌∷◌, length, map, Option, Some, None, refl, sym, ap, ◌∙◌, subst, arith}
 use Rattle.osl_overload.specs.Kinds.{same_kind}
-use Rattle.osl_overload.specs.declared.signature.Formal.{Formal}
 use Rattle.osl_overload.specs.declared.signature.Kind.{Kind}
 use Rattle.osl_overload.specs.declared.signature.Kind.TheVariants.{Void}
 use Rattle.osl_tree.specs.declared.expr.Expr.{Expr}
@@ -22,12 +20,11 @@ use Rattle.osl_typed.specs.declared.stmt.Declared.{Declared}
 use Rattle.osl_typed.specs.declared.stmt.TypedForStart.{TypedForStart}
 use Rattle.osl_typed.specs.declared.stmt.TypedForStart.TheVariants as start
 use Rattle.osl_typed.specs.declared.stmt.TypedInit.{TypedInit}
-use Rattle.osl_typed.specs.declared.stmt.TypedInit.TheVariants as init
 use Rattle.osl_typed.specs.declared.stmt.TypedStmt.{TypedStmt}
 use Rattle.osl_typed.specs.declared.stmt.TypedStmt.TheVariants as t
 use Rattle.osl_typed.specs.Operators as operators
 use Rattle.osl_typed.specs.Scopes.{Scope, Sight, is_here, with_variable, enter, leave}
-use Rattle.osl_typed.specs.Typing.{◌>>=◌, when, sequence, typing, fit, tree_of}
+use Rattle.osl_typed.specs.Typing.{◌>>=◌, sequence, typing, fit, tree_of}
 use Rattle.osl_typed.specs.BodyTyping.{declared_kind, listed_kinds, fit_first, begun, maybe_begun, declare, declare_all, Around, Going, all_typed, inside, evaluated, condition, maybe, returned, started, going_step, going, body_typed}
 use Rattle.osl_welltyped.specs.Measures.{Measure, greatest_of, or_zero, measured, all_measured, maybe_measured, init_measured, begun_measured, declared_measured, start_measured, stmt_measured, body_measured}
 use Rattle.osl_welltyped.proofs.Measured.{IsMeasure, source_measured, typing_low, fit_low}
@@ -137,7 +134,7 @@ module _ (m : Measure) (is : IsMeasure m) where
       let x = bound (maybe_begun sight scope kind.value v.init) _ r kind.goes in
       let t = held (not (is_here v.item.name scope)) _ r x.goes in
       subst (λ (r : Declared × Scope). begun_measured m (r.0).init ≤ source_begun m v.init)
-        (some_same {A = Declared × Scope} (record { number = length scope.kinds; kind = kind.value; init = x.value }, with_variable v.item.name kind.value true scope) r (t.1)) (maybe_begun_low sight scope kind.value v.init x.value x.was)
+      (some_same {A = Declared × Scope} (record { number = length scope.kinds; kind = kind.value; init = x.value }, with_variable v.item.name kind.value true scope) r (t.1)) (maybe_begun_low sight scope kind.value v.init x.value x.was)
 
   declared_low : (sight : Sight) (type : TypeName) (vs : List Var) (scope : Scope) (r : List Declared × Scope) → declare_all sight type vs scope ≡ Some r → declared_measured m (r.0) ≤ source_vars m vs
   unfolding declare_all
@@ -255,7 +252,7 @@ module _ (m : Measure) (is : IsMeasure m) where
       unfolding going source_stmt
       layer_low l =
           subst (λ (h : ℕ). Low (going around (roll-Stmt (map-Stmt Y Stmt tree l))) h) (sym (fold-roll-Stmt ℕ (source_stmt_step m) (map-Stmt Y Stmt tree l)))
-            (subst (λ (go : Going). Low go (source_stmt_step m (map-Stmt Stmt ℕ (source_stmt m) (map-Stmt Y Stmt tree l)))) (sym (fold-roll-Stmt Going (going_step around) (map-Stmt Y Stmt tree l))) (step_low l))
+          (subst (λ (go : Going). Low go (source_stmt_step m (map-Stmt Stmt ℕ (source_stmt m) (map-Stmt Y Stmt tree l)))) (sym (fold-roll-Stmt Going (going_step around) (map-Stmt Y Stmt tree l))) (step_low l))
 
     pub going_low : (x : Stmt) → Low (going around x) (source_stmt m x)
     going_low x = ind-Stmt (λ x. Low (going around x) (source_stmt m x)) (λ l y same. subst (λ z. Low (going around (roll-Stmt z)) (source_stmt m (roll-Stmt z))) same (layer_low _ (λ w. w.0) (λ w. w.1) y)) x

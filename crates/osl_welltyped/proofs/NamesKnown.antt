@@ -1,10 +1,8 @@
 -- The names that a tree spells are words of its tokens.
-use Rattle.std.proofs.Common.{◌≡◌, ℕ, List, [], ◌∷◌, ◌++◌}
-use Rattle.std.specs.Prelude.{Bool, true, false}
+use Rattle.std.proofs.Common.{ℕ, List, [], ◌∷◌, ◌++◌}
 use Rattle.osl_tree.specs.Lexeme.{Lexeme}
-use Rattle.osl_tree.specs.Lexeme as l
 use Rattle.osl_tree.specs.Lexical.{IsWord}
-use Rattle.osl_tree.specs.Terminals.{sign, key}
+use Rattle.osl_tree.specs.Terminals.{sign}
 use Rattle.osl_tree.specs.Statements.{AreListed, IsItem}
 use Rattle.osl_tree.specs.Statements as y
 use Rattle.osl_tree.specs.Files.{output_word, AreTrailed, IsDatum, IsMetadata, IsParam, AreParams, IsShader, IsTree}
@@ -62,9 +60,10 @@ metadata_words xs d n (f.some {h = h} {a = a} u) t = trailed_data xs a h u (left
 
 param_word : (x : Param) (a : List Lexeme) (h : ℕ) → IsParam x a h → L a → ParamWord x
 param_word x e n (f.param {i = i} {k = kk} {x = item} {zs = zs} {a = a} {b = q} {c = c} {d = d} output u v s r) t =
-    let front = left (output_word output ++ a ++ q ++ sign p.Assign ∷ c) d t in
-    (item_word item q i v (right (output_word output ++ a) q (left (output_word output ++ a ++ q) (sign p.Assign ∷ c) front)),
-    metadata_words zs d kk r (right (output_word output ++ a ++ q ++ sign p.Assign ∷ c) d t))
+    let front = left (output_word output ++ a ++ q ++ sign p.Assign ∷ c) d t in (
+      item_word item q i v (right (output_word output ++ a) q (left (output_word output ++ a ++ q) (sign p.Assign ∷ c) front)),
+      metadata_words zs d kk r (right (output_word output ++ a ++ q ++ sign p.Assign ∷ c) d t),
+    )
 
 params_words : (xs : List Param) (a : List Lexeme) (h : ℕ) → AreListed IsParam xs a h → L a → AllOf ParamWord xs
 params_words xs a h (y.last {x = x} u) t = (param_word x a h u t, tt)

@@ -1,5 +1,5 @@
 -- Operators, casts and choices keep what is known.
-use Rattle.std.proofs.Common.{◌≡◌, ℕ, zero, suc, Bool, true, false, not, ◌&&◌, ◌||◌, List, [], ◌∷◌, ◌++◌, length, map, Option, Some, None, refl, sym, ap, ◌∙◌, subst, arith}
+use Rattle.std.proofs.Common.{◌≡◌, ℕ, Bool, true, false, not, ◌&&◌, List, [], ◌∷◌, length, map, Option, Some, None, refl, sym, ap, ◌∙◌, subst}
 use Rattle.std.specs.Prelude.{if◌then◌else◌, ◌==◌, is_some}
 use Rattle.std.proofs.lemmas.Bool.{false≢true, and_from, and_parts, eqb-true}
 use Rattle.osl_value.proofs.SameTypes.{same_type-refl}
@@ -8,8 +8,7 @@ use Rattle.osl_value.specs.declared.op_name.OpName.TheVariants as op
 use Rattle.osl_value.specs.declared.types.Base.TheVariants.{Int}
 use Rattle.osl_value.specs.declared.types.Ty.{Ty}
 use Rattle.osl_value.specs.AnyValue.{is_number}
-use Rattle.osl_value.specs.Types.{only, is_only, same_type}
-use Rattle.osl_overload.specs.Kinds.{same_kind}
+use Rattle.osl_value.specs.Types.{only, is_only}
 use Rattle.osl_overload.specs.declared.signature.Kind.{Kind}
 use Rattle.osl_overload.specs.declared.signature.Kind.TheVariants.{Value, Structure, Void}
 use Rattle.osl_tree.specs.declared.expr.BaseType.{BaseType}
@@ -27,14 +26,13 @@ use Rattle.osl_typed.specs.declared.expr.TypedExpr.TheVariants as e
 use Rattle.osl_typed.specs.declared.found.Form.{Form}
 use Rattle.osl_typed.specs.declared.found.Form.TheVariants.{Place, Piece, Whole}
 use Rattle.osl_typed.specs.declared.found.Found.{Found}
-use Rattle.osl_typed.specs.declared.shader.TypedStructure.{TypedStructure}
 use Rattle.osl_typed.specs.Operators as operators
 use Rattle.osl_typed.specs.Operators.{int, operation, is_arithmetic, is_convertible, conversion_of, base_named}
-use Rattle.osl_typed.specs.Typing.{◌>>=◌, when, expression, tree_of, value, plain_type, applied, stepped, whole_variable, is_whole, prefixed, postfixed, converted, cast, both_numbers, operated, joined_by, binary, common, choice, fit, in_parens}
-use Rattle.osl_welltyped.specs.Kinded.{Rules, is_kind, is_numeric, plain_types, takes, steps, led_to, root_kind, kinded}
-use Rattle.osl_welltyped.proofs.FoundFits.{FoundFits, FormFits, PlaceFits, Leads, told, pair_same, tree_fits, fit_kinded, three}
+use Rattle.osl_typed.specs.Typing.{expression, tree_of, value, plain_type, applied, stepped, whole_variable, is_whole, prefixed, postfixed, converted, cast, operated, joined_by, binary, common, choice, fit, in_parens}
+use Rattle.osl_welltyped.specs.Kinded.{Rules, is_numeric, plain_types, takes, steps, led_to, kinded}
+use Rattle.osl_welltyped.proofs.FoundFits.{FoundFits, FormFits, PlaceFits, told, pair_same, tree_fits, fit_kinded, three}
 use Rattle.osl_welltyped.proofs.KindedLaws.{kinded-Apply, kinded-And, kinded-Or, kinded-Choose, kinded-Step, kinded-Paren}
-use Rattle.osl_welltyped.proofs.Steps.{none_is_not, some_same, bound, held, same_kind-true, kind_is, only_if_so}
+use Rattle.osl_welltyped.proofs.Steps.{none_is_not, some_same, bound, held, kind_is, only_if_so}
 use Rattle.osl_welltyped.proofs.Suffixes.{expression_is, whole_told}
 use Rattle.osl_welltyped.proofs.TypeTables.{operation_takes, neg_takes, plus_takes, compl_takes, not_takes, conversion_takes}
 
@@ -79,7 +77,7 @@ applied_fits rules name test gives table a c fa h =
     let s = stands rules a b.value fa b.was in
     let is : kinded rules (tree_of b.value) ≡ Some (Value ty.value) = s.kind_is ∙ ap Some (plain_is b.value.kind ty.value ty.was) in
     subst (FoundFits rules) (some_same _ c (t.1)) (value_fits rules _ _ (apply_kinded rules name (gives ty.value) (tree_of b.value ∷ [])
-      (ap (λ o. takes name (gives ty.value) (plain_types (o ∷ []))) is ∙ table ty.value (t.0))))
+    (ap (λ o. takes name (gives ty.value) (plain_types (o ∷ []))) is ∙ table ty.value (t.0))))
 
 -- a whole variable
 record IsWhole (form : Form) (root : Root) : Type 0 where
@@ -103,15 +101,15 @@ whole_is : (form : Form) (root : Root) → whole_variable form ≡ Some root →
 whole_is (Place r writable part indices) root h =
     (elim (writable && is_whole part indices) as (λ t. (writable && is_whole part indices) ≡ t → (if t then Some r else None) ≡ Some root → IsWhole (Place r writable part indices) root) [
       | true ↦ λ all g.
-        let p = and_parts writable (is_whole part indices) all in
-        let q = and_parts ((length part.fields == 0) && not (is_some part.component)) (length indices == 0) (p.1) in
-        let s = and_parts (length part.fields == 0) (not (is_some part.component)) (q.0) in
-        record {
-          part = part;
-          form_is = λ i. Place (root_same r root g i) (p.0 i) part (no_items indices (q.1) i);
-          no_fields = no_items part.fields (s.0);
-          no_component = no_some part.component (s.1);
-        }
+          let p = and_parts writable (is_whole part indices) all in
+          let q = and_parts ((length part.fields == 0) && not (is_some part.component)) (length indices == 0) (p.1) in
+          let s = and_parts (length part.fields == 0) (not (is_some part.component)) (q.0) in
+          record {
+            part = part;
+            form_is = λ i. Place (root_same r root g i) (p.0 i) part (no_items indices (q.1) i);
+            no_fields = no_items part.fields (s.0);
+            no_component = no_some part.component (s.1);
+          }
       | false ↦ λ all g. none_is_not root g
     ]) refl h
 whole_is (Piece from a part indices) root h = none_is_not root h
@@ -163,7 +161,7 @@ converted_fits rules to a c fa h =
     let s = stands rules a b.value fa b.was in
     let is : kinded rules (tree_of b.value) ≡ Some (Value ty.value) = s.kind_is ∙ ap Some (plain_is b.value.kind ty.value ty.was) in
     subst (FoundFits rules) (some_same _ c (t.1)) (value_fits rules _ _ (apply_kinded rules (conversion_of to ty.value) to (tree_of b.value ∷ [])
-      (ap (λ o. takes (conversion_of to ty.value) to (plain_types (o ∷ []))) is ∙ conversion_takes to ty.value (t.0))))
+    (ap (λ o. takes (conversion_of to ty.value) to (plain_types (o ∷ []))) is ∙ conversion_takes to ty.value (t.0))))
 
 pub cast_fits : (rules : Rules) (to : BaseType) (a c : Found) → FoundFits rules a → cast to a ≡ Some c → FoundFits rules c
 unfolding cast
@@ -193,7 +191,7 @@ operated_fits rules o a b c sa sb h =
     let l = fit_kinded rules r.value.left a left.value sa.fits sa.whole left.was in
     let k = fit_kinded rules r.value.right b right.value sb.fits sb.whole right.was in
     subst (FoundFits rules) (some_same _ c right.goes) (value_fits rules _ _ (apply_kinded rules r.value.op r.value.ty (left.value ∷ right.value ∷ [])
-      ((λ i. takes r.value.op r.value.ty (plain_types (l i ∷ k i ∷ []))) ∙ operation_takes o a.kind b.kind r.value r.was)))
+    ((λ i. takes r.value.op r.value.ty (plain_types (l i ∷ k i ∷ []))) ∙ operation_takes o a.kind b.kind r.value r.was)))
 
 joined_by_fits : (rules : Rules) (o : BinaryOp) (a b c : Found) → Stands rules a → Stands rules b → joined_by o a b ≡ Some c → FoundFits rules c
 joined_by_fits rules by.And a b c sa sb h =
@@ -229,6 +227,6 @@ choice_fits rules t a b c ft fa fb h =
     let sa = stands rules a first.value fa first.was in
     let sb = stands rules b second.value fb second.was in
     subst (FoundFits rules) (some_same _ c right.goes) (value_fits rules _ _ (kinded-Choose rules kind.value (tree_of test.value) left.value right.value ∙ only_if_so _ _
-      (three _ _ _ (numeric_is rules (tree_of test.value) test.value.kind st.kind_is (is.0))
-      (kind_is kind.value _ (fit_kinded rules kind.value first.value left.value sa.fits sa.whole left.was))
-      (kind_is kind.value _ (fit_kinded rules kind.value second.value right.value sb.fits sb.whole right.was)))))
+    (three _ _ _ (numeric_is rules (tree_of test.value) test.value.kind st.kind_is (is.0))
+    (kind_is kind.value _ (fit_kinded rules kind.value first.value left.value sa.fits sa.whole left.was))
+    (kind_is kind.value _ (fit_kinded rules kind.value second.value right.value sb.fits sb.whole right.was)))))

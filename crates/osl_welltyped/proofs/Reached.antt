@@ -1,30 +1,16 @@
 -- What indices lead to, index by index as typing goes, and by the rules from the outside in.
-use Rattle.std.proofs.Common.{◌≡◌, ℕ, zero, suc, ◌+◌, Bool, true, false, ◌&&◌, nat_lt, List, [], ◌∷◌, ◌++◌, length, map, Option, Some, None, refl, sym, ap, ◌∙◌, subst, arith}
-use Rattle.std.specs.Prelude.{if◌then◌else◌, ◌==◌, cond}
-use Rattle.std.specs.List.{list_all}
-use Rattle.std.proofs.lemmas.Bool.{false≢true, and_parts, and_from}
-use Rattle.std.proofs.lemmas.List.{length-map}
+use Rattle.std.proofs.Common.{◌≡◌, ℕ, zero, suc, Bool, true, false, ◌&&◌, List, [], ◌∷◌, Option, Some, None, refl, sym, ap}
+use Rattle.std.specs.Prelude.{if◌then◌else◌, ◌==◌}
+use Rattle.std.proofs.lemmas.Bool.{false≢true}
 use Rattle.osl_value.specs.declared.types.Base.{Base}
 use Rattle.osl_value.specs.declared.types.Base.TheVariants.{Int, Float, Color, Point, Vector, Normal, Matrix, Str, Closure}
 use Rattle.osl_value.specs.declared.types.Ty.{Ty}
 use Rattle.osl_value.specs.AnyValue.{is_array, is_one_triple, element_type}
 use Rattle.osl_value.specs.Types.{only, is_only}
-use Rattle.osl_overload.specs.declared.signature.Kind.{Kind}
-use Rattle.osl_overload.specs.declared.signature.Kind.TheVariants.{Value, Structure, Void}
-use Rattle.osl_typed.specs.declared.expr.Root.{Root}
-use Rattle.osl_typed.specs.declared.expr.Part.{Part}
-use Rattle.osl_typed.specs.declared.expr.TypedExpr.{TypedExpr}
-use Rattle.osl_typed.specs.declared.expr.TypedExpr.TheVariants as e
-use Rattle.osl_typed.specs.declared.found.Form.{Form}
-use Rattle.osl_typed.specs.declared.found.Form.TheVariants.{Place, Piece, Whole}
-use Rattle.osl_typed.specs.declared.found.Found.{Found}
-use Rattle.osl_typed.specs.declared.shader.TypedStructure.{TypedStructure}
-use Rattle.osl_typed.specs.Operators.{int, float}
-use Rattle.osl_typed.specs.Selections.{part_kind, kind_at, selected_type, last_type, types_on_the_way, component_count}
-use Rattle.osl_typed.specs.Typing.{◌>>=◌, indexed_type, tree_of, tree_of_form}
-use Rattle.osl_welltyped.specs.Kinded.{Rules, is_kind, is_int, led_to, selects, component_fits, kind_selects, part_fits, root_kind, kinded}
-use Rattle.osl_welltyped.proofs.Steps.{none_is_not, some_same, bound, is_kind_is, kind_is, only_if_so}
-use Rattle.osl_welltyped.proofs.KindedLaws.{kinded-Variable, kinded-PartOf}
+use Rattle.osl_typed.specs.Selections.{selected_type, last_type, types_on_the_way}
+use Rattle.osl_typed.specs.Typing.{◌>>=◌, indexed_type}
+use Rattle.osl_welltyped.specs.Kinded.{selects}
+use Rattle.osl_welltyped.proofs.Steps.{none_is_not, some_same}
 
 -- ---- what indices lead to, a row of a matrix too
 
@@ -116,13 +102,13 @@ ends_inside : (b : Base) (len m : ℕ) (to : Ty) → let ty : Ty = record { base
 ends_inside b len (suc (suc m)) to h = none_is_not (to, false) h
 ends_inside b len (suc zero) to h =
     elim (is_only Matrix (record { base = b; len = len })) as (λ t. float_if t ≡ Some (to, false)
-        → ((if t then 1 == 1 else is_one_triple (record { base = b; len = len }) && (1 == 0)) ≡ true) × (last_type (record { base = b; len = len }) (if t then component_type (record { base = b; len = len }) 1 else only Float ∷ []) ≡ to)) [
+    → ((if t then 1 == 1 else is_one_triple (record { base = b; len = len }) && (1 == 0)) ≡ true) × (last_type (record { base = b; len = len }) (if t then component_type (record { base = b; len = len }) 1 else only Float ∷ []) ≡ to)) [
       | true ↦ λ e. (refl, same_end _ _ e)
       | false ↦ λ e. none_is_not _ e
     ] h
 ends_inside Matrix len zero to h =
     elim (len == 0) as (λ t. row_if (record { base = Matrix; len = len }) t ≡ Some (to, false)
-        → ((if t then 0 == 1 else false) ≡ true) × (last_type (record { base = Matrix; len = len }) (if t then [] else only Float ∷ []) ≡ to)) [
+    → ((if t then 0 == 1 else false) ≡ true) × (last_type (record { base = Matrix; len = len }) (if t then [] else only Float ∷ []) ≡ to)) [
       | true ↦ λ e. no_row _ _ e
       | false ↦ λ e. none_is_not _ e
     ] h
@@ -145,8 +131,8 @@ unfolding reached selects types_on_the_way
 reached_ends ty zero to h = record { selects = refl; type = same_end _ _ h }
 reached_ends ty (suc m) to h =
     let r = (elim (is_array ty) as (λ t. (if t then reached (element_type ty) m else reached_inside ty m) ≡ Some (to, false)
-        → ((if t then selects (element_type ty) m else (if is_only Matrix ty then m == 1 else is_one_triple ty && (m == 0))) ≡ true)
-        × (last_type ty (if t then element_type ty ∷ types_on_the_way (element_type ty) m else (if is_only Matrix ty then component_type ty m else only Float ∷ [])) ≡ to)) [
+    → ((if t then selects (element_type ty) m else (if is_only Matrix ty then m == 1 else is_one_triple ty && (m == 0))) ≡ true)
+    × (last_type ty (if t then element_type ty ∷ types_on_the_way (element_type ty) m else (if is_only Matrix ty then component_type ty m else only Float ∷ [])) ≡ to)) [
       | true ↦ λ e. let r = ends_one ty.base m to e in (r.selects, r.type)
       | false ↦ λ e. ends_inside ty.base ty.len m to e
     ] h) in

@@ -1,32 +1,29 @@
 -- A typed shader fits the rules.
-use Rattle.std.proofs.Common.{◌≡◌, ℕ, zero, suc, ◌+◌, ◌<◌, ◌≤◌, Bool, true, false, not, ◌&&◌, ◌||◌, List, [], ◌∷◌, ◌++◌, length, map, nat_lt, Option, Some, None, refl, sym, ap, ◌∙◌, subst, arith, append_assoc, length-append}
-use Rattle.std.specs.Prelude.{if◌then◌else◌, ◌==◌, slice_get, bytes_eq, is_some}
+use Rattle.std.proofs.Common.{◌≡◌, ℕ, zero, suc, ◌+◌, ◌<◌, Bool, true, false, not, ◌&&◌, List, [], ◌∷◌, ◌++◌, length, map, nat_lt, Some, None, refl, sym, ap, ◌∙◌, subst, arith, length-append}
+use Rattle.std.specs.Prelude.{if◌then◌else◌, slice_get, bytes_eq}
 use Rattle.std.specs.List.{list_all}
 use Rattle.std.proofs.lemmas.Bool.{false≢true, and_from, and_parts, eq-eqb, lt-ltb}
 use Rattle.std.proofs.lemmas.List.{length-map}
 use Rattle.std.proofs.lemmas.Slice.Eq.{bytes_eq-Decides}
 use Rattle.std.proofs.lemmas.Option.{slice_get_within}
-use Rattle.osl_overload.specs.declared.signature.Formal.{Formal}
 use Rattle.osl_overload.specs.declared.signature.Kind.{Kind}
 use Rattle.osl_overload.specs.declared.signature.Kind.TheVariants.{Value, Void}
 use Rattle.osl_tree.specs.declared.tree.Param.{Param}
 use Rattle.osl_tree.specs.declared.tree.Tree.{Tree}
 use Rattle.osl_typed.specs.declared.expr.Root.TheVariants as root
-use Rattle.osl_typed.specs.declared.found.Binding.{Binding}
 use Rattle.osl_typed.specs.declared.shader.TypedParam.{TypedParam}
 use Rattle.osl_typed.specs.declared.shader.TypedShader.{TypedShader}
-use Rattle.osl_typed.specs.declared.stmt.TypedStmt.{TypedStmt}
-use Rattle.osl_typed.specs.FileTyping.{Above, at_the_top, definitions_added, metadata_typed, is_reserved, param_added, params_added, kinds_of_fields, shader_typed, typed, IsTypingOf}
-use Rattle.osl_typed.specs.Scopes.{Scope, StructureName, Candidate, Sight, look, is_here, stands_at, enter, outermost, is_assignable_global, with_variable}
-use Rattle.osl_typed.specs.Typing.{◌>>=◌, when, plain_type}
+use Rattle.osl_typed.specs.FileTyping.{Above, at_the_top, definitions_added, metadata_typed, is_reserved, param_added, params_added, shader_typed, typed, IsTypingOf}
+use Rattle.osl_typed.specs.Scopes.{Scope, Candidate, Sight, look, is_here, stands_at, enter, outermost, is_assignable_global, with_variable}
+use Rattle.osl_typed.specs.Typing.{plain_type}
 use Rattle.osl_typed.specs.BodyTyping.{declared_kind, begun, body_typed}
 use Rattle.osl_welltyped.specs.Agreement.{IsDeclared, SightFits, NamesFit}
 use Rattle.osl_welltyped.specs.Kinded.{Rules, root_kind}
 use Rattle.osl_welltyped.specs.StatementsFit.{init_fits, body_fits, declared_in}
-use Rattle.osl_welltyped.specs.WellTyped.{structures_fit, IsFrame, kinds_of_formals, kinds_declared, is_output, as_formal, as_formals, rules_below, rules_of, may_write_of, differ, names_of, IsParam, FitsRules}
+use Rattle.osl_welltyped.specs.WellTyped.{structures_fit, IsFrame, kinds_of_formals, kinds_declared, is_output, as_formal, as_formals, rules_below, rules_of, differ, names_of, FitsRules}
 use Rattle.osl_welltyped.proofs.BodiesFit.{Extends, Grows, kind_below, declared_below, begun_fits, with_name, at_front}
-use Rattle.osl_welltyped.proofs.FilesFit.{above_length, AboveFits, top_fits, definitions_kept, frame_fits, behind_formals, sight_structures, structures_above, map_at}
-use Rattle.osl_welltyped.proofs.FormalsFit.{globals_fit, Writes, FormalsGrow, formals_none, formals_more, Begins, begins_all, begins_at, whole_frame}
+use Rattle.osl_welltyped.proofs.FilesFit.{above_length, AboveFits, top_fits, definitions_kept, frame_fits, behind_formals, sight_structures, structures_above}
+use Rattle.osl_welltyped.proofs.FormalsFit.{globals_fit, Writes, FormalsGrow, formals_none, formals_more, Begins, begins_all, whole_frame}
 use Rattle.osl_welltyped.proofs.OperatorsFit.{plain_is}
 use Rattle.osl_welltyped.proofs.StatementsKeep.{body_keeps}
 use Rattle.osl_welltyped.proofs.Steps.{none_is_not, some_same, bound, held}
@@ -100,14 +97,14 @@ one_param sight param scope r h =
     let metas = bound (metadata_typed sight scope param.metadata) _ r init.goes in
     let is : kind.value ≡ Value ty.value = plain_is kind.value ty.value ty.was in
     subst (λ (r : TypedParam × Scope). OneParam sight scope (r.0) (r.1))
-      (some_same {A = TypedParam × Scope} (record { output = param.output; ty = ty.value; name = param.item.name; init = init.value; metadata = metas.value }, with_variable param.item.name kind.value param.output scope) r metas.goes)
-      (record {
-        mid_is = ap (λ k. with_variable param.item.name k param.output scope) is;
-        below = ap (kind_below (length sight.structures)) (sym is) ∙ declared_below sight.structures param.ty param.item.len kind.value kind.was;
-        free = not_false (is_reserved param.item.name) (p.0);
-        new = p.1;
-        default = λ rules seen names. ap (λ k. init_fits rules k init.value) (sym is) ∙ begun_fits rules sight scope seen names kind.value param.init init.value init.was;
-      })
+    (some_same {A = TypedParam × Scope} (record { output = param.output; ty = ty.value; name = param.item.name; init = init.value; metadata = metas.value }, with_variable param.item.name kind.value param.output scope) r metas.goes)
+    (record {
+      mid_is = ap (λ k. with_variable param.item.name k param.output scope) is;
+      below = ap (kind_below (length sight.structures)) (sym is) ∙ declared_below sight.structures param.ty param.item.len kind.value kind.was;
+      free = not_false (is_reserved param.item.name) (p.0);
+      new = p.1;
+      default = λ rules seen names. ap (λ k. init_fits rules k init.value) (sym is) ∙ begun_fits rules sight scope seen names kind.value param.init init.value init.was;
+    })
 
 params_more : (sight : Sight) (scope : Scope) (p : TypedParam) (params : List TypedParam) (after : Scope) → OneParam sight scope p (with_variable p.name (Value p.ty) p.output scope) → ParamsGrow sight (with_variable p.name (Value p.ty) p.output scope) params after
     → ParamsGrow sight scope (p ∷ params) after
@@ -133,13 +130,13 @@ params_more sight scope p params after one rest = record {
     later_default (suc k) param at rules seen names holds writes =
         let l : length (scope.kinds ++ Value p.ty ∷ []) ≡ length scope.kinds + 1 = long in
         let front : Extends rules (scope.kinds ++ Value p.ty ∷ []) = λ j kind there.
-          let low : j < length (scope.kinds ++ Value p.ty ∷ []) = slice_get_within (scope.kinds ++ Value p.ty ∷ []) j kind there in
-          holds j kind (omega arith) (ap (λ (l : List Kind). slice_get l j) (rest.formals.kinds) ∙ at_front (scope.kinds ++ Value p.ty ∷ []) (kinds_of_formals (map as_formal params)) j kind there) in
+        let low : j < length (scope.kinds ++ Value p.ty ∷ []) = slice_get_within (scope.kinds ++ Value p.ty ∷ []) j kind there in
+        holds j kind (omega arith) (ap (λ (l : List Kind). slice_get l j) (rest.formals.kinds) ∙ at_front (scope.kinds ++ Value p.ty ∷ []) (kinds_of_formals (map as_formal params)) j kind there) in
         let z : length scope.kinds + 0 ≡ length scope.kinds = omega arith in
         let named = with_name rules p.name (Value p.ty) p.output scope names front (λ is. ap (λ j. rules.may_write (root.Variable j)) (sym z) ∙ writes 0 (as_formal p) refl is) in
         rest.defaults k param at rules seen named (λ j kind low there. let below : j < length (scope.kinds ++ Value p.ty ∷ []) + k = low in holds j kind (omega arith) there) (λ i formal there is.
-          let e : length (scope.kinds ++ Value p.ty ∷ []) + i ≡ length scope.kinds + suc i = omega arith in
-          ap (λ j. rules.may_write (root.Variable j)) e ∙ writes (suc i) formal there is)
+        let e : length (scope.kinds ++ Value p.ty ∷ []) + i ≡ length scope.kinds + suc i = omega arith in
+        ap (λ j. rules.may_write (root.Variable j)) e ∙ writes (suc i) formal there is)
 
 pub params_grow : (sight : Sight) (params : List Param) (scope : Scope) (r : List TypedParam × Scope) → params_added sight params scope ≡ Some r → ParamsGrow sight scope (r.0) (r.1)
 unfolding params_added
@@ -150,7 +147,7 @@ params_grow sight (param ∷ params) scope r h =
     let one = one_param sight param scope p.value p.was in
     let grown = params_grow sight params (p.value.1) rest.value rest.was in
     subst (λ (r : List TypedParam × Scope). ParamsGrow sight scope (r.0) (r.1)) (some_same {A = List TypedParam × Scope} (p.value.0 ∷ rest.value.0, rest.value.1) r rest.goes)
-      (params_more sight scope (p.value.0) (rest.value.0) (rest.value.1) (subst (OneParam sight scope (p.value.0)) one.mid_is one) (subst (λ mid. ParamsGrow sight mid (rest.value.0) (rest.value.1)) one.mid_is grown))
+    (params_more sight scope (p.value.0) (rest.value.0) (rest.value.1) (subst (OneParam sight scope (p.value.0)) one.mid_is one) (subst (λ mid. ParamsGrow sight mid (rest.value.0) (rest.value.1)) one.mid_is grown))
 
 -- ---- the shader
 
@@ -206,12 +203,12 @@ shader_fits tree above t fits h =
       params = λ k param at. record {
         free = m.params.free k param at;
         default = m.params.defaults k param at (rules_below t k) (record { structures = sight_structures above t.structures structures; functions = called }) (globals k)
-          (λ j kind low there.
+            (λ j kind low there.
             let below : j < 0 + k = low in
             let j_below : j < k = omega arith in
             let test : nat_lt j k ≡ true = lt-ltb j k j_below in
             ap (λ b. if b then slice_get t.frame j else None) test ∙ ap (λ (l : List Kind). slice_get l j) (m.frame_is ∙ m.body.kinds) ∙ at_front m.before.kinds (kinds_declared (declared_in t.body)) j kind there)
-          (writes k);
+            (writes k);
       };
       names = m.params.differ_names;
       frame = subst (λ kinds. IsFrame t.structures (kinds_of_formals (as_formals t)) kinds t.body) (sym m.frame_is) frame;

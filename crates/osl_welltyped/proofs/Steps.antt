@@ -1,5 +1,5 @@
 -- Chains of answers that may be missing, taken apart; tests of kinds.
-use Rattle.std.proofs.Common.{◌≡◌, ℕ, Bool, true, false, List, [], ◌∷◌, Option, Some, None, refl, sym, ap, ◌∙◌, subst}
+use Rattle.std.proofs.Common.{◌≡◌, Bool, true, false, Option, Some, None, refl, ap, ◌∙◌}
 use Rattle.std.proofs.lemmas.Bool.{false≢true, eqb-true, eq-eqb}
 use Rattle.osl_value.proofs.SameTypes.{same_type-true, same_type-refl}
 use Rattle.osl_overload.specs.Kinds.{same_kind}

@@ -1,6 +1,6 @@
 -- Names, indices, components and fields keep what is known.
 use Rattle.std.proofs.Common.{◌≡◌, ℕ, zero, suc, ◌+◌, Bool, true, false, not, ◌&&◌, nat_lt, List, [], ◌∷◌, ◌++◌, length, map, Option, Some, None, refl, sym, ap, ◌∙◌, subst, arith}
-use Rattle.std.specs.Prelude.{if◌then◌else◌, ◌==◌, is_some, slice_get, bytes_eq, codes}
+use Rattle.std.specs.Prelude.{if◌then◌else◌, slice_get, bytes_eq, codes}
 use Rattle.std.specs.List.{list_all}
 use Rattle.std.proofs.lemmas.Bool.{false≢true, and_from, and_parts}
 use Rattle.osl_value.proofs.SameTypes.{same_type-true}
@@ -11,7 +11,6 @@ use Rattle.osl_value.specs.Types.{only, is_only}
 use Rattle.osl_overload.specs.Kinds.{same_kind}
 use Rattle.osl_overload.specs.declared.signature.Kind.{Kind}
 use Rattle.osl_overload.specs.declared.signature.Kind.TheVariants.{Value, Structure, Void}
-use Rattle.osl_typed.specs.declared.expr.Root.{Root}
 use Rattle.osl_typed.specs.declared.expr.Part.{Part}
 use Rattle.osl_typed.specs.declared.expr.TypedExpr.{TypedExpr}
 use Rattle.osl_typed.specs.declared.found.Binding.{Binding}
@@ -22,11 +21,10 @@ use Rattle.osl_typed.specs.declared.shader.TypedStructure.{TypedStructure}
 use Rattle.osl_typed.specs.Frames.{fields_in}
 use Rattle.osl_typed.specs.Operators.{int, float}
 use Rattle.osl_typed.specs.Scopes.{look, field_named, FieldName, StructureName, Sight}
-use Rattle.osl_typed.specs.FileTyping.{kinds_of_fields}
-use Rattle.osl_typed.specs.Typing.{◌>>=◌, when, name, index, field, expression, tree_of, indexed_type, indexed_kind, with_index, with_component, with_component_in, with_field, with_field_in, component_of, component_in, selected_by, fields_of_structure, found, whole_of}
-use Rattle.osl_welltyped.specs.Kinded.{Rules, is_int, led_to, component_fits, root_kind, kinded}
-use Rattle.osl_welltyped.specs.Agreement.{IsBound, SightFits, NamesFit}
-use Rattle.osl_welltyped.proofs.FoundFits.{FoundFits, FormFits, PlaceFits, PieceFits, WholeFits, Leads, AreInts, told, named, whole_only, pair_same, tree_fits, if_some}
+use Rattle.osl_typed.specs.Typing.{◌>>=◌, name, index, field, expression, tree_of, indexed_type, indexed_kind, with_index, with_component, with_field, with_field_in, component_of, component_in, selected_by, fields_of_structure, whole_of}
+use Rattle.osl_welltyped.specs.Kinded.{Rules, is_int, led_to, component_fits, kinded}
+use Rattle.osl_welltyped.specs.Agreement.{SightFits, NamesFit}
+use Rattle.osl_welltyped.proofs.FoundFits.{FoundFits, FormFits, Leads, AreInts, told, named, pair_same, tree_fits, if_some}
 use Rattle.osl_welltyped.proofs.Reached.{reached, reached_more}
 use Rattle.osl_welltyped.proofs.Steps.{none_is_not, some_same, bound, held, same_kind-true}
 
@@ -208,12 +206,12 @@ field_at at [] word r h = none_is_not r h
 field_at at (x ∷ xs) word r h =
     (elim (bytes_eq x.name word) as (λ t. (if t then Some (at, x.kind) else field_named (at + 1) xs word) ≡ Some r → (k : ℕ) × (r.0 ≡ at + k) × (slice_get (map (λ f. f.kind) (x ∷ xs)) k ≡ Some (r.1))) [
       | true ↦ λ g. let e = some_same {A = ℕ × Kind} (at, x.kind) r g in
-        let a : at ≡ r.0 = ap (λ (p : ℕ × Kind). p.0) e in
-        let z : at + 0 ≡ at = omega arith in
-        (0, sym a ∙ sym z, ap (λ (p : ℕ × Kind). Some (p.1)) e)
+          let a : at ≡ r.0 = ap (λ (p : ℕ × Kind). p.0) e in
+          let z : at + 0 ≡ at = omega arith in
+          (0, sym a ∙ sym z, ap (λ (p : ℕ × Kind). Some (p.1)) e)
       | false ↦ λ g. let rest = field_at (at + 1) xs word r g in
-        let z : at + 1 + rest.0 ≡ at + suc (rest.0) = omega arith in
-        (suc (rest.0), rest.1 ∙ z, rest.2)
+          let z : at + 1 + rest.0 ≡ at + suc (rest.0) = omega arith in
+          (suc (rest.0), rest.1 ∙ z, rest.2)
     ]) h
 
 led_end : (structures : List TypedStructure) (o : Option Kind) → led_to structures o [] ≡ o
@@ -239,8 +237,8 @@ structure_field rules sight m word r fits =
     elim (slice_get sight.structures m) as (λ o. slice_get sight.structures m ≡ o → field_named 0 (names_in o) word ≡ Some r → slice_get (fields_in rules.structures (Structure m)) (r.0) ≡ Some (r.1)) [
       | None ↦ λ was h. none_is_not r h
       | Some s ↦ λ was h. let k = field_at 0 s.fields word r h in
-        let z : 0 + k.0 ≡ k.0 = omega arith in
-        ap (λ (o : Option TypedStructure). slice_get (kinds_in o) (r.0)) (fits.structures m s was) ∙ ap (λ j. slice_get (map (λ f. f.kind) s.fields) j) (k.1 ∙ z) ∙ k.2
+          let z : 0 + k.0 ≡ k.0 = omega arith in
+          ap (λ (o : Option TypedStructure). slice_get (kinds_in o) (r.0)) (fits.structures m s was) ∙ ap (λ j. slice_get (map (λ f. f.kind) s.fields) j) (k.1 ∙ z) ∙ k.2
     ] refl
 
 record IsWholeStructure (from : Kind) (n : ℕ) (component : Option ℕ) (m : ℕ) : Type 0 where

@@ -1,5 +1,5 @@
 -- The tables of typing against the table of operations: each operation that typing writes in is one that the table takes.
-use Rattle.std.proofs.Common.{◌≡◌, ℕ, zero, suc, Bool, true, false, not, ◌&&◌, ◌||◌, ◌⊎◌, inl, inr, List, [], ◌∷◌, ◌++◌, map, length, Option, Some, None, refl, sym, ap, ◌∙◌, subst}
+use Rattle.std.proofs.Common.{◌≡◌, ℕ, zero, suc, Bool, true, false, ◌&&◌, ◌||◌, ◌⊎◌, inl, inr, List, [], ◌∷◌, Option, Some, None, refl, sym, ap, ◌∙◌, subst}
 use Rattle.std.specs.Prelude.{if◌then◌else◌, ◌==◌, is_some, slice_get}
 use Rattle.std.specs.List.{list_all}
 use Rattle.std.proofs.lemmas.Bool.{false≢true, and_parts, eqb-true}
@@ -14,17 +14,12 @@ use Rattle.osl_value.specs.Apply.{is_allowed}
 use Rattle.osl_value.specs.Types.{only, is_only, is_triple}
 use Rattle.osl_overload.specs.Cost.{cost, promotion_of, is_spatial}
 use Rattle.osl_overload.specs.Kinds.{same_kind}
-use Rattle.osl_overload.specs.declared.signature.Formal.{Formal}
 use Rattle.osl_overload.specs.declared.signature.Kind.{Kind}
 use Rattle.osl_overload.specs.declared.signature.Kind.TheVariants.{Value, Structure, Void}
-use Rattle.osl_overload.specs.declared.signature.Signature.{Signature}
 use Rattle.osl_tree.specs.declared.expr.AssignOp.{AssignOp}
 use Rattle.osl_tree.specs.declared.expr.AssignOp.TheVariants as to
 use Rattle.osl_tree.specs.declared.expr.BinaryOp.{BinaryOp}
 use Rattle.osl_tree.specs.declared.expr.BinaryOp.TheVariants as by
-use Rattle.osl_typed.specs.declared.found.Callee.{Callee}
-use Rattle.osl_typed.specs.declared.found.Callee.TheVariants.{Declared, Operation, SubstrToEnd, Exit}
-use Rattle.osl_typed.specs.BuiltIns.{Line, lines}
 use Rattle.osl_typed.specs.Operators as operators
 use Rattle.osl_typed.specs.Operators.{operation, is_arithmetic, is_factor, is_type, is_spatial_type, is_scaling, joined, given, on_one_kind, on_one_type, closure, is_convertible, conversion_of}
 use Rattle.osl_welltyped.specs.Kinded.{takes, plain_types, updates_by}
@@ -181,31 +176,31 @@ joined_alone : (a b : Kind) (ty : Ty) → joined a b ≡ Some (Value ty) → ty.
 joined_alone a b ty joins short =
     elim (same_kind a b) as (λ t. same_kind a b ≡ t → (if t then Some a else (if is_type is_spatial_type a && is_type is_spatial_type b then Some (Value (only Vector)) else (if is_some (promotion_of a b) then Some b else (if is_some (promotion_of b a) then Some a else None)))) ≡ Some (Value ty) → BothAlone a b) [
       | true ↦ λ same h.
-        let left : IsAlone a = alone_same (Value ty) a (sym (some_same a (Value ty) h)) (alone ty short) in
-        record { left = left; right = alone_same a b (same_kind-true a b same) left }
+          let left : IsAlone a = alone_same (Value ty) a (sym (some_same a (Value ty) h)) (alone ty short) in
+          record { left = left; right = alone_same a b (same_kind-true a b same) left }
       | false ↦ λ other.
-        elim (is_type is_spatial_type a && is_type is_spatial_type b) as (λ t. (is_type is_spatial_type a && is_type is_spatial_type b) ≡ t → (if t then Some (Value (only Vector)) else (if is_some (promotion_of a b) then Some b else (if is_some (promotion_of b a) then Some a else None))) ≡ Some (Value ty) → BothAlone a b) [
-        | true ↦ λ both h. let p = and_parts (is_type is_spatial_type a) (is_type is_spatial_type b) both in
-          record { left = type_alone (λ ty. is_spatial_type ty) short_spatial a (p.0); right = type_alone (λ ty. is_spatial_type ty) short_spatial b (p.1) }
-        | false ↦ λ neither.
-          elim (is_some (promotion_of a b)) as (λ t. is_some (promotion_of a b) ≡ t → (if t then Some b else (if is_some (promotion_of b a) then Some a else None)) ≡ Some (Value ty) → BothAlone a b) [
-          | true ↦ λ up h. promotion_alone a b up
-          | false ↦ λ not_up.
-            elim (is_some (promotion_of b a)) as (λ t. is_some (promotion_of b a) ≡ t → (if t then Some a else None) ≡ Some (Value ty) → BothAlone a b) [
-            | true ↦ λ down h. let p = promotion_alone b a down in record { left = p.right; right = p.left }
-            | false ↦ λ not_down h. none_is_not (Value ty) h
-            ] refl
+          elim (is_type is_spatial_type a && is_type is_spatial_type b) as (λ t. (is_type is_spatial_type a && is_type is_spatial_type b) ≡ t → (if t then Some (Value (only Vector)) else (if is_some (promotion_of a b) then Some b else (if is_some (promotion_of b a) then Some a else None))) ≡ Some (Value ty) → BothAlone a b) [
+            | true ↦ λ both h. let p = and_parts (is_type is_spatial_type a) (is_type is_spatial_type b) both in
+                record { left = type_alone (λ ty. is_spatial_type ty) short_spatial a (p.0); right = type_alone (λ ty. is_spatial_type ty) short_spatial b (p.1) }
+            | false ↦ λ neither.
+                elim (is_some (promotion_of a b)) as (λ t. is_some (promotion_of a b) ≡ t → (if t then Some b else (if is_some (promotion_of b a) then Some a else None)) ≡ Some (Value ty) → BothAlone a b) [
+                  | true ↦ λ up h. promotion_alone a b up
+                  | false ↦ λ not_up.
+                      elim (is_some (promotion_of b a)) as (λ t. is_some (promotion_of b a) ≡ t → (if t then Some a else None) ≡ Some (Value ty) → BothAlone a b) [
+                        | true ↦ λ down h. let p = promotion_alone b a down in record { left = p.right; right = p.left }
+                        | false ↦ λ not_down h. none_is_not (Value ty) h
+                      ] refl
+                ] refl
           ] refl
-        ] refl
     ] refl joins
 
 scaling_alone : (o : BinaryOp) (a b : Kind) → is_scaling o a b ≡ true → BothAlone a b
 scaling_alone by.Multiply a b h =
     elim (or_true (is_type is_factor a && same_kind b closure) (same_kind a closure && is_type is_factor b) h) [
       | inl x ↦ let p = and_parts (is_type is_factor a) (same_kind b closure) x in
-        record { left = type_alone (λ ty. is_factor ty) short_factor a (p.0); right = record { base = Closure; is = same_kind-true b closure (p.1) } }
+          record { left = type_alone (λ ty. is_factor ty) short_factor a (p.0); right = record { base = Closure; is = same_kind-true b closure (p.1) } }
       | inr y ↦ let p = and_parts (same_kind a closure) (is_type is_factor b) y in
-        record { left = record { base = Closure; is = same_kind-true a closure (p.0) }; right = type_alone (λ ty. is_factor ty) short_factor b (p.1) }
+          record { left = record { base = Closure; is = same_kind-true a closure (p.0) }; right = type_alone (λ ty. is_factor ty) short_factor b (p.1) }
     ]
 scaling_alone _ a b h = absurd (false≢true h)
 

@@ -1,15 +1,10 @@
 -- Every typing of a source is well typed.
-use Rattle.std.proofs.Common.{◌≡◌, ℕ, zero, suc, ◌+◌, ◌≤◌, Bool, true, false, not, ◌&&◌, ◌⊎◌, inl, inr, List, [], ◌∷◌, ◌++◌, length, map, Option, Some, None, refl, sym, ap, ◌∙◌, subst, arith}
+use Rattle.std.proofs.Common.{◌≡◌, ℕ, zero, suc, ◌≤◌, true, false, not, ◌&&◌, inl, inr, List, [], ◌∷◌, length, map, Option, Some, refl, sym, ap, ◌∙◌, subst, arith}
 use Rattle.std.specs.Prelude.{slice_get, is_some}
-use Rattle.std.proofs.lemmas.Bool.{and_parts}
-use Rattle.osl_value.specs.declared.types.Ty.{Ty}
-use Rattle.osl_overload.specs.declared.signature.Formal.{Formal}
-use Rattle.osl_overload.specs.declared.signature.Kind.{Kind}
 use Rattle.osl_overload.specs.declared.signature.Kind.TheVariants.{Value, Void}
-use Rattle.osl_tree.specs.Files.{Spells, max_height}
+use Rattle.osl_tree.specs.Files.{max_height}
 use Rattle.osl_tree.specs.Lexemes.{lexemes}
 use Rattle.osl_tree.specs.Lexical.{IsWord}
-use Rattle.osl_tree.specs.Sources.{IsTreeOfSource}
 use Rattle.osl_tree.specs.declared.tree.Datum.{Datum}
 use Rattle.osl_tree.specs.declared.tree.Definition.{Definition}
 use Rattle.osl_tree.specs.declared.tree.Definition.TheVariants as definitions
@@ -21,28 +16,26 @@ use Rattle.osl_typed.specs.declared.shader.TypedDatum.{TypedDatum}
 use Rattle.osl_typed.specs.declared.shader.TypedFunction.{TypedFunction}
 use Rattle.osl_typed.specs.declared.shader.TypedParam.{TypedParam}
 use Rattle.osl_typed.specs.declared.shader.TypedShader.{TypedShader}
-use Rattle.osl_typed.specs.declared.stmt.TypedStmt.{TypedStmt}
 use Rattle.osl_typed.specs.FileTyping as typing_rules
 use Rattle.osl_typed.specs.FileTyping.{Above, at_the_top, lines_added, with_structure, structure_added, formals_added, result_kind, is_taken, function_added, definitions_added, datum_typed, metadata_typed, is_reserved, param_added, params_added, shader_typed, typed, IsTypingOf}
 use Rattle.osl_typed.specs.Longest.{longest_of}
 use Rattle.osl_typed.specs.Scopes.{Scope, Sight, is_here, with_variable, enter, outermost, is_assignable_global, structure_named}
 use Rattle.osl_typed.specs.SourceTyping.{IsTypingOfSource}
-use Rattle.osl_typed.specs.Typing.{◌>>=◌, when, sequence, plain_type, formal_kinds}
+use Rattle.osl_typed.specs.Typing.{sequence, plain_type, formal_kinds}
 use Rattle.osl_typed.specs.BodyTyping.{declared_kind, begun, body_typed}
 use Rattle.osl_welltyped.specs.Kinded.{is_type}
-use Rattle.osl_welltyped.specs.Measures.{Measure, by_height, by_text, by_fault, init_measured, body_measured}
-use Rattle.osl_welltyped.specs.StatementsFit.{init_fits}
-use Rattle.osl_welltyped.specs.WellTyped.{IsName, HasNames, IsDatum, AreMetadata, HasMetadata, IsWithin, IsBounded, IsWellTyped, is_constant_init, rules_of_constants}
+use Rattle.osl_welltyped.specs.Measures.{Measure, by_height, by_text, by_fault, body_measured}
+use Rattle.osl_welltyped.specs.WellTyped.{AreMetadata, IsWithin, IsWellTyped}
 use Rattle.osl_welltyped.proofs.BodiesFit.{kind_below, declared_below}
 use Rattle.osl_welltyped.proofs.Constants.{begun_const, constant_fits}
 use Rattle.osl_welltyped.proofs.FilesFit.{structures_above, sight_structures}
 use Rattle.osl_welltyped.proofs.FormalsFit.{Begins, begins_all, snoc_at}
-use Rattle.osl_welltyped.proofs.GrammarFiles.{AllOf, all_of_at, FunctionWithin, ParamWithin, DatumWithin, MetadataWithin, SourceWithin, DataWithin, tree_low}
+use Rattle.osl_welltyped.proofs.GrammarFiles.{AllOf, all_of_at, FunctionWithin, ParamWithin, DatumWithin, MetadataWithin, SourceWithin, tree_low}
 use Rattle.osl_welltyped.proofs.Lexed.{tokens_lexed, height_is, text_is, fault_is, height_bound, fault_bound, heights_low, faults_low}
 use Rattle.osl_welltyped.proofs.LongestTexts.{DatumShort, ParamShort, NamesShort, names_short, texts_low}
 use Rattle.osl_welltyped.proofs.Measured.{IsMeasure}
 use Rattle.osl_welltyped.proofs.MeasuredBodies.{begun_low, body_low}
-use Rattle.osl_welltyped.proofs.NamesKnown.{DatumWord, ParamWord, ShaderWords, tree_words}
+use Rattle.osl_welltyped.proofs.NamesKnown.{DatumWord, ParamWord, tree_words}
 use Rattle.osl_welltyped.proofs.OperatorsFit.{plain_is}
 use Rattle.osl_welltyped.proofs.ShaderFits.{typing_fits}
 use Rattle.osl_welltyped.proofs.Steps.{none_is_not, some_same, bound, held}
@@ -104,8 +97,8 @@ param_made sight q scope r h =
     let metas = bound (metadata_typed sight scope q.metadata) _ r init.goes in
     let is = plain_is kind.value ty.value ty.was in
     subst (λ (r : TypedParam × Scope). ParamMade sight q (r.0))
-      (some_same {A = TypedParam × Scope} (record { output = q.output; ty = ty.value; name = q.item.name; init = init.value; metadata = metas.value }, with_variable q.item.name kind.value q.output scope) r metas.goes)
-      (record { scope = scope; name_is = refl; init_is = ap (λ k. begun sight scope k q.init) (sym is) ∙ init.was; metadata_is = metas.was })
+    (some_same {A = TypedParam × Scope} (record { output = q.output; ty = ty.value; name = q.item.name; init = init.value; metadata = metas.value }, with_variable q.item.name kind.value q.output scope) r metas.goes)
+    (record { scope = scope; name_is = refl; init_is = ap (λ k. begun sight scope k q.init) (sym is) ∙ init.was; metadata_is = metas.was })
 
 record ParamAt (sight : Sight) (params : List Param) (k : ℕ) (p : TypedParam) : Type 0 where
   from : Param
@@ -219,9 +212,9 @@ within m is limit tree t source h =
     record {
       functions = λ n f at. functions n f (ap (λ l. slice_get l n) (sym s.functions_is) ∙ at);
       params = λ k p at.
-        let q = params_at made.above.sight tree.shader.params (begin_of tree) (t.params, s.before) s.params_is k p at in
-        let low = begun_low m is made.above.sight q.made.scope (Value p.ty) q.from.init p.init q.made.init_is in
-        let most = all_of_at (ParamWithin m limit) tree.shader.params k q.from source.params q.at in omega arith;
+          let q = params_at made.above.sight tree.shader.params (begin_of tree) (t.params, s.before) s.params_is k p at in
+          let low = begun_low m is made.above.sight q.made.scope (Value p.ty) q.from.init p.init q.made.init_is in
+          let most = all_of_at (ParamWithin m limit) tree.shader.params k q.from source.params q.at in omega arith;
       body = let low = body_low m is (record { sight = made.above.sight; result = Void }) tree.shader.body s.before (t.body, s.after) s.body_is in let most = source.body in omega arith;
     }
 
@@ -231,21 +224,21 @@ data_fit : (tree : Tree) (t : TypedShader) (above : Above) (scope : Scope) (meta
     → AllOf DatumWord metas → AllOf (DatumShort t.longest_word) metas → AllOf (DatumWithin by_fault 0) metas → AreMetadata t typed
 data_fit tree t above scope metas typed structures h words short numbers = record {
   each = λ k d at.
-    let q = typed_at (datum_typed above.sight scope) metas typed h k d at in
-    let m = datum_made above.sight scope q.from d q.is in
-    let begins : Begins (structures_above above) t.structures = subst (Begins (structures_above above)) (sym structures) (begins_all (structures_above above)) in
-    let low = begun_low by_fault fault_is above.sight scope (Value d.ty) q.from.init d.init m.init_is in
-    let zero_low = all_of_at (DatumWithin by_fault 0) metas k q.from numbers q.at in
-    record {
-      name = record {
-        word = subst IsWord (sym m.name_is) (all_of_at DatumWord metas k q.from words q.at);
-        short = subst (λ (n : List ℕ). length n ≤ t.longest_word) (sym m.name_is) (all_of_at (DatumShort t.longest_word) metas k q.from short q.at);
+      let q = typed_at (datum_typed above.sight scope) metas typed h k d at in
+      let m = datum_made above.sight scope q.from d q.is in
+      let begins : Begins (structures_above above) t.structures = subst (Begins (structures_above above)) (sym structures) (begins_all (structures_above above)) in
+      let low = begun_low by_fault fault_is above.sight scope (Value d.ty) q.from.init d.init m.init_is in
+      let zero_low = all_of_at (DatumWithin by_fault 0) metas k q.from numbers q.at in
+      record {
+        name = record {
+          word = subst IsWord (sym m.name_is) (all_of_at DatumWord metas k q.from words q.at);
+          short = subst (λ (n : List ℕ). length n ≤ t.longest_word) (sym m.name_is) (all_of_at (DatumShort t.longest_word) metas k q.from short q.at);
+        };
+        type = m.type;
+        constant = begun_const above.sight scope (Value d.ty) q.from.init d.init m.constant m.init_is;
+        value = constant_fits t above.sight scope (sight_structures above t.structures begins) (Value d.ty) q.from.init d.init m.constant m.init_is;
+        numbers = omega arith;
       };
-      type = m.type;
-      constant = begun_const above.sight scope (Value d.ty) q.from.init d.init m.constant m.init_is;
-      value = constant_fits t above.sight scope (sight_structures above t.structures begins) (Value d.ty) q.from.init d.init m.constant m.init_is;
-      numbers = omega arith;
-    };
 }
 
 -- ---- all
@@ -270,17 +263,17 @@ typing_well t h =
           short = subst (λ (n : List ℕ). length n ≤ t.longest_word) (sym s.name_is) short.shader;
         };
         params = λ k p at.
-          let q = params_at made.above.sight tree.shader.params (begin_of tree) (t.params, s.before) s.params_is k p at in
-          record {
-            word = subst IsWord (sym q.made.name_is) (all_of_at ParamWord tree.shader.params k q.from words.params q.at).0;
-            short = subst (λ (n : List ℕ). length n ≤ t.longest_word) (sym q.made.name_is) (all_of_at (ParamShort t.longest_word) tree.shader.params k q.from short.params q.at).0;
-          };
+            let q = params_at made.above.sight tree.shader.params (begin_of tree) (t.params, s.before) s.params_is k p at in
+            record {
+              word = subst IsWord (sym q.made.name_is) (all_of_at ParamWord tree.shader.params k q.from words.params q.at).0;
+              short = subst (λ (n : List ℕ). length n ≤ t.longest_word) (sym q.made.name_is) (all_of_at (ParamShort t.longest_word) tree.shader.params k q.from short.params q.at).0;
+            };
       };
       metadata = record {
         shader = data_fit tree t made.above (outermost (λ g. false)) tree.shader.metadata t.metadata s.structures_is s.metadata_is words.metadata short.metadata (faults.1).shader;
         params = λ k p at.
-          let q = params_at made.above.sight tree.shader.params (begin_of tree) (t.params, s.before) s.params_is k p at in
-          data_fit tree t made.above q.made.scope q.from.metadata p.metadata s.structures_is q.made.metadata_is
+            let q = params_at made.above.sight tree.shader.params (begin_of tree) (t.params, s.before) s.params_is k p at in
+            data_fit tree t made.above q.made.scope q.from.metadata p.metadata s.structures_is q.made.metadata_is
             (all_of_at ParamWord tree.shader.params k q.from words.params q.at).1
             (all_of_at (ParamShort t.longest_word) tree.shader.params k q.from short.params q.at).1
             (all_of_at (MetadataWithin by_fault 0) tree.shader.params k q.from (faults.1).params q.at);
