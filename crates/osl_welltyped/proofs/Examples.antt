@@ -185,7 +185,7 @@ earlier_parameter = ap (λ k. is_kind float k) (kinded-Variable (with_ready 1) (
 
 in_a_loop : stmt_fits rules Void (s.While (e.Int (pos 1)) s.Break) false ≡ true
 in_a_loop = fits-While rules Void _ _ false ∙ (λ i. fit_step rules Void (stmt_node.While (e.Int (pos 1)) (stmt_fits rules Void s.Break)) false)
-  ∙ (λ i. is_numeric (kinded-Int rules (pos 1) i) && fits-Break rules Void true i)
+    ∙ (λ i. is_numeric (kinded-Int rules (pos 1) i) && fits-Break rules Void true i)
 
 -- `break` outside a loop
 outside_a_loop : stmt_fits rules Void s.Break false ≡ false
