@@ -1,20 +1,17 @@
 -- Rows, by computing: trees that are well formed, and trees that are not, each with its reason.
-use Rattle.std.proofs.Common.{◌≡◌, ℕ, zero, suc, Bool, true, false, List, [], ◌∷◌, map, Option, Some, None, refl, sym, ap, ◌∙◌}
-use Rattle.std.specs.Prelude.{pos, ◌==◌, not, ◌&&◌}
+use Rattle.std.proofs.Common.{◌≡◌, ℕ, true, false, List, [], ◌∷◌, Some, None, refl, ap, ◌∙◌}
+use Rattle.std.specs.Prelude.{pos, ◌&&◌}
 use Rattle.osl_value.specs.declared.op_name.OpName.TheVariants as op
 use Rattle.osl_value.specs.declared.types.Base.{Base}
-use Rattle.osl_value.specs.declared.types.Base.TheVariants.{Int, Float, Color, Point, Matrix, Str, Closure}
-use Rattle.osl_value.specs.declared.types.Ty.{Ty}
+use Rattle.osl_value.specs.declared.types.Base.TheVariants.{Int, Float, Color, Point, Matrix, Closure}
 use Rattle.osl_value.specs.Apply.{is_allowed}
 use Rattle.osl_value.specs.Types.{only}
 use Rattle.osl_overload.specs.declared.signature.Formal.{Formal}
 use Rattle.osl_overload.specs.declared.signature.Kind.{Kind}
 use Rattle.osl_overload.specs.declared.signature.Kind.TheVariants.{Value, Structure, Void}
-use Rattle.osl_typed.specs.declared.expr.Argument.{Argument}
 use Rattle.osl_typed.specs.declared.expr.Argument.TheVariants as arguments
 use Rattle.osl_typed.specs.declared.expr.Argument.TheOpen as node
 use Rattle.osl_typed.specs.declared.expr.Part.{Part}
-use Rattle.osl_typed.specs.declared.expr.Root.{Root}
 use Rattle.osl_typed.specs.declared.expr.Root.TheVariants as root
 use Rattle.osl_typed.specs.declared.expr.TypedExpr.{TypedExpr}
 use Rattle.osl_typed.specs.declared.expr.TypedExpr.TheVariants as e
@@ -26,10 +23,10 @@ use Rattle.osl_typed.specs.declared.stmt.TypedStmt.TheOpen as stmt_node
 use Rattle.osl_typed.specs.declared.stmt.TypedStmt.TheVariants as s
 use Rattle.osl_typed.specs.Selections.{types_on_the_way}
 use Rattle.osl_welltyped.specs.Kinded.{Rules, is_type, is_kind, is_numeric, kind_step, argument_step, kinded, selects, passed_kind}
-use Rattle.osl_welltyped.specs.StatementsFit.{stmt_fits, fit_step, declared_fits, init_fits, has_kind, are_numbered}
+use Rattle.osl_welltyped.specs.StatementsFit.{stmt_fits, fit_step, declared_fits, init_fits, are_numbered}
 use Rattle.osl_welltyped.specs.WellTyped.{structures_fit, may_write_in, differ}
-use Rattle.osl_welltyped.proofs.KindedLaws.{kinded-Int, kinded-Float, kinded-Variable, kinded-Paren, kinded-Promote, kinded-Apply, kinded-Choose, kinded-Assign, kinded-Call, kinded-In, kinded-Out}
-use Rattle.osl_welltyped.proofs.StatementNodes.{fits-Break, fits-While, fits-Return, fits-Expr}
+use Rattle.osl_welltyped.proofs.KindedLaws.{kinded-Int, kinded-Float, kinded-Variable, kinded-Promote, kinded-Apply, kinded-Assign, kinded-Call, kinded-In, kinded-Out}
+use Rattle.osl_welltyped.proofs.StatementNodes.{fits-Break, fits-While, fits-Return}
 
 -- ---- a scope
 
