@@ -1,0 +1,143 @@
+-- Ways through code, and what is live on them.
+use Rattle.std.specs.Prelude.{◌≡◌, ℕ, ◌+◌, ◌<◌, ◌⊎◌, List, [], ◌∷◌, Option, Some, None, Bool, true, false, nat_lt, if◌then◌else◌, slice_get}
+use Rattle.oso_code.specs.Steps.{Span, Way, Break, Continue, Return, Exit, Step, Compute, Branch, Loop, Call, Leave}
+use Rattle.oso_code.specs.Uses.{reads_on_entry, reads_in_test, written_by}
+use Rattle.oso_code.specs.declared.op.Section.{Section}
+
+-- a spot of the code: before an op, before the condition of a loop is read, before a section, or the layer's end
+pub data Spot : Type 0 where
+  At : ℕ → Spot
+  Test : ℕ → Spot
+  Gate : ℕ → Spot
+  Done : Spot
+
+-- the range that an op stands in: where it ends, and where its end and the ways out of it lead
+pub record Around : Type 0 where
+  pub end : ℕ
+  pub next : Spot
+  pub breaks : Spot
+  pub continues : Spot
+  pub returns : Spot
+
+abbrev pub left_to : Around → Way → Spot
+left_to a Break = a.breaks
+left_to a Continue = a.continues
+left_to a Return = a.returns
+left_to a Exit = Done
+
+-- from place i of a range on
+abbrev pub first : ℕ → Around → Spot
+first i a = if nat_lt i a.end then At i else a.next
+
+-- from the start of a span that is run within a range
+abbrev pub entry : Span → Around → Spot
+entry s a = first s.start a
+
+abbrev pub part : Span → Spot → Around → Around
+part s next a = record { end = s.end; next = next; breaks = a.breaks; continues = a.continues; returns = a.returns }
+
+abbrev pub within_branch : Span → Span → Around → Around
+within_branch s fails a = part s (first fails.end a) a
+
+abbrev pub within_test : ℕ → Span → Around → Around
+within_test i test a = part test (Test i) a
+
+-- a loop's step is followed by its test
+abbrev pub within_step : ℕ → Span → Span → Around → Around
+within_step i test step a = part step (entry test (within_test i test a)) a
+
+abbrev pub within_body : ℕ → Span → Span → Span → Around → Around
+within_body i test body step a =
+    let on = entry step (within_step i test step a) in
+    record { end = body.end; next = on; breaks = first step.end a; continues = on; returns = a.returns }
+
+abbrev pub within_call : Span → Around → Around
+within_call body a = let on = first body.end a in record { end = body.end; next = on; breaks = on; continues = on; returns = on }
+
+-- a section is followed by the gate of the next
+abbrev pub within_section : ℕ → Section → Around
+within_section j section = record { end = section.end; next = Gate (j + 1); breaks = Done; continues = Done; returns = Done }
+
+-- ---- a table of what is around each op
+
+abbrev pub IsAround : (ℕ → Around) → ℕ → Around → Type 0
+IsAround around i a = i < a.end → around i ≡ a
+
+abbrev pub Inner : (ℕ → Around) → ℕ → Step → Around → Type 0
+Inner around i (Compute name ty target sources) a = IsAround around (i + 1) a
+Inner around i (Branch c holds fails) a = IsAround around holds.start (within_branch holds fails a) × IsAround around fails.start (within_branch fails fails a) × IsAround around fails.end a
+Inner around i (Loop tested c test body step) a =
+    IsAround around test.start (within_test i test a) × IsAround around body.start (within_body i test body step a) × IsAround around step.start (within_step i test step a) × IsAround around step.end a
+Inner around i (Call body) a = IsAround around body.start (within_call body a) × IsAround around body.end a
+Inner around i (Leave way) a = IsAround around (i + 1) a
+
+pub record Surrounds (steps : List Step) (sections : List Section) (around : ℕ → Around) : Type 0 where
+  pub start : (j : ℕ) (section : Section) → slice_get sections j ≡ Some section → IsAround around section.start (within_section j section)
+  pub each : (i : ℕ) (step : Step) → slice_get steps i ≡ Some step → Inner around i step (around i)
+
+-- ---- ways
+
+-- where a way may go on from an op
+abbrev pub nexts_of : ℕ → Around → Step → List Spot
+nexts_of i a (Compute name ty target sources) = first (i + 1) a ∷ []
+nexts_of i a (Branch c holds fails) = entry holds (within_branch holds fails a) ∷ entry fails (within_branch fails fails a) ∷ []
+nexts_of i a (Loop true c test body step) = entry test (within_test i test a) ∷ []
+nexts_of i a (Loop false c test body step) = entry body (within_body i test body step a) ∷ []
+nexts_of i a (Call body) = entry body (within_call body a) ∷ []
+nexts_of i a (Leave way) = left_to a way ∷ []
+
+-- and from where a loop's condition is read
+abbrev pub test_nexts : ℕ → Around → Step → List Spot
+test_nexts i a (Loop tested c test body step) = entry body (within_body i test body step a) ∷ first step.end a ∷ []
+test_nexts i a step = []
+
+-- from the gate of a section: into it, and where it is a parameter's, past it
+abbrev pub gate_nexts : ℕ → Section → List Spot
+gate_nexts j section = first section.start (within_section j section) ∷ elim (section.param) [ None ↦ [] | Some p ↦ Gate (j + 1) ∷ [] ]
+
+-- where a way may go on from a spot, what is read there and what is written
+abbrev pub nexts : List Step → List Section → (ℕ → Around) → Spot → List Spot
+nexts steps sections around (At i) = elim (slice_get steps i) [ None ↦ [] | Some step ↦ nexts_of i (around i) step ]
+nexts steps sections around (Test i) = elim (slice_get steps i) [ None ↦ [] | Some step ↦ test_nexts i (around i) step ]
+nexts steps sections around (Gate j) = elim (slice_get sections j) [ None ↦ Done ∷ [] | Some section ↦ gate_nexts j section ]
+nexts steps sections around Done = []
+
+abbrev pub reads_at : List Step → Spot → List ℕ
+reads_at steps (At i) = elim (slice_get steps i) [ None ↦ [] | Some step ↦ reads_on_entry step ]
+reads_at steps (Test i) = elim (slice_get steps i) [ None ↦ [] | Some step ↦ reads_in_test step ]
+reads_at steps (Gate j) = []
+reads_at steps Done = []
+
+abbrev pub writes_at : List Step → Spot → Option ℕ
+writes_at steps (At i) = elim (slice_get steps i) [ None ↦ None | Some step ↦ written_by step ]
+writes_at steps (Test i) = None
+writes_at steps (Gate j) = None
+writes_at steps Done = None
+
+abbrev pub In : ℕ → List ℕ → Type 0
+In k [] = ⊥
+In k (x ∷ xs) = (k ≡ x) ⊎ In k xs
+
+abbrev pub Among : Spot → List Spot → Type 0
+Among p [] = ⊥
+Among p (q ∷ qs) = (p ≡ q) ⊎ Among p qs
+
+-- some way from here reads the symbol before it overwrites it, or comes to the end where it is asked, without overwriting it
+pub data Live (steps : List Step) (sections : List Section) (around : ℕ → Around) (asked : ℕ → Bool) (k : ℕ) : Spot → Type 0 where
+  Reads : (p : Spot) → In k (reads_at steps p) → Live steps sections around asked k p
+  Passes : (p q : Spot) → Among q (nexts steps sections around p) → (writes_at steps p ≡ Some k → ⊥) → Live steps sections around asked k q → Live steps sections around asked k p
+  Asked : asked k ≡ true → Live steps sections around asked k Done
+
+-- live after the op at i
+abbrev pub LiveAfter : List Step → List Section → (ℕ → Around) → (ℕ → Bool) → ℕ → ℕ → Type 0
+LiveAfter steps sections around asked i k = (q : Spot) × Among q (nexts steps sections around (At i)) × Live steps sections around asked k q
+
+-- rows that hold what is live
+pub record Settled (steps : List Step) (sections : List Section) (around : ℕ → Around) (asked : ℕ → Bool) (row : Spot → ℕ → Bool) : Type 0 where
+  pub read : (p : Spot) (k : ℕ) → In k (reads_at steps p) → row p k ≡ true
+  pub pass : (p q : Spot) (k : ℕ) → Among q (nexts steps sections around p) → (writes_at steps p ≡ Some k → ⊥) → row q k ≡ true → row p k ≡ true
+  pub asks : (k : ℕ) → asked k ≡ true → row Done k ≡ true
+
+-- and hold nothing else
+pub record Earned (steps : List Step) (sections : List Section) (around : ℕ → Around) (asked : ℕ → Bool) (row : Spot → ℕ → Bool) : Type 0 where
+  pub each : (p : Spot) (k : ℕ) → row p k ≡ true → Live steps sections around asked k p

@@ -1,0 +1,11 @@
+pub mod Quiet
+pub mod Side
+pub mod Known
+pub mod Cut
+pub mod Flow
+pub mod Drop
+pub mod Identities
+pub mod Reduced
+pub mod Rewrites
+pub mod Choice
+pub mod Once
