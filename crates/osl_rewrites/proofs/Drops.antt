@@ -267,7 +267,7 @@ module _ (from : Sources) (old new : List Step) (sections : List Section) (neste
       ByCall body at there (omega (arith, p, q)) l (within_call body a) (inside i body.end body (within_call body a) nest (omega (arith, l, within)) refl inner.0) (after_it i body.end a.end a (omega (arith, p, q)) cl within refl inner.1)
       (out_of_call row body a) (λ s t r. from_first row body.start (within_call body a) s t (lead i (Call body) (entry body (within_call body a)) s t at (inl refl) refl r))
 
-  -- an op that stands in both codes
+  -- an op that is in both codes
   pub at_op : (i : ℕ) (step : Step) → slice_get old i ≡ Some step → slice_get new i ≡ Some step → IsClosed old i (around i).end → (around i).end ≤ length old → i < (around i).end → At_i i
   at_op i (Compute name ty w rs) at there cl within lt = at_wired i name ty w rs rs at there (wired_self from rs) cl within lt
   at_op i (Branch c holds fails) at there cl within lt = at_branch i c c holds fails at there (inl refl) cl within lt

@@ -1,4 +1,4 @@
--- Behind the one assign of a held symbol its target may as well be read as that symbol.
+-- After the one assign of a held symbol its target may as well be read as that symbol.
 use Rattle.std.proofs.Common.{◌≡◌, ℕ, ◌+◌, ◌<◌, ◌≤◌, ◌⊎◌, inl, inr, ⊎_elim, List, [], ◌∷◌, length, Some, None, Bool, true, false, refl, sym, ap, ◌∙◌, subst, arith}
 use Rattle.std.specs.Prelude.{slice_get, nat_lt, nat_eq, if◌then◌else◌}
 use Rattle.std.proofs.lemmas.Bool.{lt-ltb, ltb-true, cases_lt}
@@ -96,7 +96,7 @@ module _ (from : Sources) (old new : List Step) (nested : AreNested old) (p k c 
     known_here : b ≡ true → at i ≡ true
     known_here q = is_at i (runs.passed q)
 
-    -- a later place is past the assign just where the op is, if it lies before the assign's place or behind the op
+    -- a later place is past the assign just where the op is, if it lies before the assign's place or after the op
     Later : ℕ → Type 0
     Later j = (i < j) × (p < j → p < i)
 

@@ -28,7 +28,7 @@ use Rattle.osl_rewrites.proofs.Layers.{layer_ends, sections_same, dead_sections}
 use Rattle.osl_rewrites.proofs.Uniform.{is_there}
 
 module _ (kept : ℕ → Bool) where
-  -- what stands at k in the middle: the op, or a call of nothing
+  -- what is at k in the middle: the op, or a call of nothing
   abbrev ghost_at : ℕ → Step → Step
   ghost_at k step = if kept k then step else Call (span (k + 1) (k + 1))
 
@@ -74,7 +74,7 @@ module _ (kept : ℕ → Bool) where
       mid_gone : (k : ℕ) (step : Step) → slice_get old k ≡ Some step → kept k ≡ false → slice_get mid k ≡ Some (Call (span (k + 1) (k + 1)))
       mid_gone k step at h = mid_get k step at ∙ ap (λ b. Some (if b then step else Call (span (k + 1) (k + 1)))) h
 
-      -- what stands in the middle stood, or died
+      -- what is in the middle stood in the old code, or was dead there
       pub data Was (k : ℕ) (step : Step) : Type 0 where
         Stays : slice_get old k ≡ Some step → kept k ≡ true → Was k step
         Goes : (dead : Dead k) → kept k ≡ false → step ≡ Call (span (k + 1) (k + 1)) → Was k step

@@ -1,4 +1,4 @@
--- An op that is replaced where it stands, by one that does the same.
+-- An op that is replaced in place by one that does the same.
 use Rattle.std.proofs.Common.{◌≡◌, ℕ, zero, suc, ⊎_elim, List, refl, ap, ◌∙◌, subst, arith}
 use Rattle.std.specs.Prelude.{slice_get, nat_lt}
 use Rattle.std.proofs.lemmas.Bool.{cases_lt}

@@ -1,4 +1,4 @@
--- Two runs that stand in one relation all along, of codes with the same ranges.
+-- Two runs whose states are in one relation all along, of codes with the same ranges.
 use Rattle.std.proofs.Common.{◌≡◌, ℕ, ◌+◌, ◌<◌, ◌≤◌, ⊎_elim, List, [], ◌∷◌, length, Option, Some, None, Bool, true, false, refl, arith}
 use Rattle.std.specs.Prelude.{slice_get, nat_lt}
 use Rattle.std.proofs.lemmas.Option.{slice_get_cases}

@@ -15,16 +15,20 @@ new_place kept (suc k) = new_place kept k + (if kept k then 1 else 0)
 
 -- ---- code
 
+-- an op, with its jumps led to where the ops that they name go
 abbrev pub moved_op : (ℕ → ℕ) → Op → Op
 moved_op to op = record { name = op.name; args = op.args; jumps = map to op.jumps }
 
+-- a section, with its ends led there
 abbrev pub moved_section : (ℕ → ℕ) → Section → Section
 moved_section to section = record { param = section.param; start = to section.start; end = to section.end }
 
+-- the ops that stay, moved, of a list whose first op is the one at this number
 abbrev pub cut_from : (ℕ → Bool) → ℕ → List Op → List Op
 cut_from kept at [] = []
 cut_from kept at (op ∷ ops) = if kept at then moved_op (new_place kept) op ∷ cut_from kept (at + 1) ops else cut_from kept (at + 1) ops
 
+-- the code without the ops that are not kept
 unfoldable pub cut : (ℕ → Bool) → Raw → Raw
 cut kept raw = record {
   kind = raw.kind;
@@ -37,9 +41,11 @@ cut kept raw = record {
 
 -- ---- its steps
 
+-- a span, moved
 abbrev pub moved_span : (ℕ → ℕ) → Span → Span
 moved_span to s = span (to s.start) (to s.end)
 
+-- a step, with its ranges moved
 abbrev pub moved : (ℕ → ℕ) → Step → Step
 moved to (Compute name ty target sources) = Compute name ty target sources
 moved to (Branch c holds fails) = Branch c (moved_span to holds) (moved_span to fails)
@@ -69,6 +75,7 @@ pub record RunsIn (Runs : ℕ → ℕ → Type 0) (i next : ℕ) (s : Span) : Ty
   pub within : s.end ≤ next
   pub runs : Runs s.start s.end
 
+-- the ranges of the step at i, and what follows it up to e, may be run
 abbrev pub Parts : (ℕ → ℕ → Type 0) → Step → ℕ → ℕ → Type 0
 Parts Runs (Compute name ty target sources) i e = Runs (i + 1) e
 Parts Runs (Branch c holds fails) i e = (fails.end ≤ e) × RunsIn Runs i fails.end holds × RunsIn Runs i fails.end fails × Runs fails.end e
@@ -96,6 +103,7 @@ pub record Goes (from : Sources) (old : List Step) (to : ℕ → ℕ) (Runs : �
   pub outer : Runs n e
   pub does : (f : ℕ) (s : State) → act from (quiet from old f) (Some step) i e s ≡ then_do (quiet from old f l m s) (quiet from old f n e)
 
+-- the op at i stays, or goes
 pub data Fate (from : Sources) (old new : List Step) (to : ℕ → ℕ) (Runs : ℕ → ℕ → Type 0) (i e : ℕ) : Type 0 where
   Kept : (step : Step) → Stays old new to Runs i e step → Fate from old new to Runs i e
   Gone : (step : Step) (l m n : ℕ) → Goes from old to Runs i e step l m n → Fate from old new to Runs i e

@@ -16,9 +16,11 @@ pub record Agree (row : ℕ → Bool) (s t : State) : Type 0 where
   pub turns : s.turns ≡ t.turns
   pub reads : (k : ℕ) → t.reads k ≡ true → s.reads k ≡ true
 
+-- the second state notes no read that the first does not
 pub record NoNewRead (s t : State) : Type 0 where
   pub reads : (k : ℕ) → t.reads k ≡ true → s.reads k ≡ true
 
+-- what holds at the ends of a range with this around it, by the rows of where they lead
 abbrev pub ends_around : (Spot → ℕ → Bool) → Around → AtEnds
 ends_around row a = record { next = Agree (row a.next); jumps = λ way. Agree (row (left_to a way)); spent = NoNewRead }
 
@@ -34,6 +36,7 @@ MayGive (Wired None) u = Unit {0}
 MayGive (Wired (Some v)) u = u ≡ v
 MayGive (Held v) u = u ≡ v
 
+-- values that reads of these symbols may give
 abbrev pub MayGiveAll : Sources → List ℕ → List AnyValue → Type 0
 MayGiveAll from [] [] = Unit {0}
 MayGiveAll from [] (u ∷ us) = ⊥
@@ -44,6 +47,7 @@ MayGiveAll from (k ∷ ks) (u ∷ us) = MayGive (from k) u × MayGiveAll from ks
 abbrev pub WiredOne : Sources → ℕ → ℕ → Type 0
 WiredOne from k q = (k ≡ q) ⊎ ((v : AnyValue) × (from k ≡ Wired (Some v)) × (from q ≡ Held v))
 
+-- the same of lists of symbols
 abbrev pub WiredAll : Sources → List ℕ → List ℕ → Type 0
 WiredAll from [] [] = Unit {0}
 WiredAll from [] (q ∷ qs) = ⊥

@@ -4,14 +4,14 @@ use Rattle.oso_code.specs.Steps.{Span, Way, Break, Continue, Return, Exit, Step,
 use Rattle.oso_code.specs.Uses.{reads_on_entry, reads_in_test, written_by}
 use Rattle.oso_code.specs.declared.op.Section.{Section}
 
--- a spot of the code: before an op, before the condition of a loop is read, before a section, or the layer's end
+-- a spot of the code (a program point): before an op, before the condition of a loop is read, before a section, or the layer's end
 pub data Spot : Type 0 where
   At : ℕ → Spot
   Test : ℕ → Spot
   Gate : ℕ → Spot
   Done : Spot
 
--- the range that an op stands in: where it ends, and where its end and the ways out of it lead
+-- the range around an op: where it ends, and where its end and the ways out of it lead
 pub record Around : Type 0 where
   pub end : ℕ
   pub next : Spot
@@ -19,6 +19,7 @@ pub record Around : Type 0 where
   pub continues : Spot
   pub returns : Spot
 
+-- where a way out of a range leads
 abbrev pub left_to : Around → Way → Spot
 left_to a Break = a.breaks
 left_to a Continue = a.continues
@@ -33,12 +34,15 @@ first i a = if nat_lt i a.end then At i else a.next
 abbrev pub entry : Span → Around → Spot
 entry s a = first s.start a
 
+-- a range of an op, which is followed by this spot and left as the range around the op is
 abbrev pub part : Span → Spot → Around → Around
 part s next a = record { end = s.end; next = next; breaks = a.breaks; continues = a.continues; returns = a.returns }
 
+-- around a range of an `if`
 abbrev pub within_branch : Span → Span → Around → Around
 within_branch s fails a = part s (first fails.end a) a
 
+-- around the range of a loop's condition
 abbrev pub within_test : ℕ → Span → Around → Around
 within_test i test a = part test (Test i) a
 
@@ -46,11 +50,13 @@ within_test i test a = part test (Test i) a
 abbrev pub within_step : ℕ → Span → Span → Around → Around
 within_step i test step a = part step (entry test (within_test i test a)) a
 
+-- around a loop's body: `continue` goes on with the step, `break` after the loop
 abbrev pub within_body : ℕ → Span → Span → Span → Around → Around
 within_body i test body step a =
     let on = entry step (within_step i test step a) in
     record { end = body.end; next = on; breaks = first step.end a; continues = on; returns = a.returns }
 
+-- around a called range: all ways but an exit go on after the call
 abbrev pub within_call : Span → Around → Around
 within_call body a = let on = first body.end a in record { end = body.end; next = on; breaks = on; continues = on; returns = on }
 
@@ -60,9 +66,11 @@ within_section j section = record { end = section.end; next = Gate (j + 1); brea
 
 -- ---- a table of what is around each op
 
+-- the table says this of the range that begins at i, if it is not empty
 abbrev pub IsAround : (ℕ → Around) → ℕ → Around → Type 0
 IsAround around i a = i < a.end → around i ≡ a
 
+-- the table is right on the ranges of the op at i, and on what follows it
 abbrev pub Inner : (ℕ → Around) → ℕ → Step → Around → Type 0
 Inner around i (Compute name ty target sources) a = IsAround around (i + 1) a
 Inner around i (Branch c holds fails) a = IsAround around holds.start (within_branch holds fails a) × IsAround around fails.start (within_branch fails fails a) × IsAround around fails.end a
@@ -71,6 +79,7 @@ Inner around i (Loop tested c test body step) a =
 Inner around i (Call body) a = IsAround around body.start (within_call body a) × IsAround around body.end a
 Inner around i (Leave way) a = IsAround around (i + 1) a
 
+-- the table is right on all sections and on all ops
 pub record Surrounds (steps : List Step) (sections : List Section) (around : ℕ → Around) : Type 0 where
   pub start : (j : ℕ) (section : Section) → slice_get sections j ≡ Some section → IsAround around section.start (within_section j section)
   pub each : (i : ℕ) (step : Step) → slice_get steps i ≡ Some step → Inner around i step (around i)
@@ -102,22 +111,26 @@ nexts steps sections around (Test i) = elim (slice_get steps i) [ None ↦ [] | 
 nexts steps sections around (Gate j) = elim (slice_get sections j) [ None ↦ Done ∷ [] | Some section ↦ gate_nexts j section ]
 nexts steps sections around Done = []
 
+-- the symbols that are read at a spot
 abbrev pub reads_at : List Step → Spot → List ℕ
 reads_at steps (At i) = elim (slice_get steps i) [ None ↦ [] | Some step ↦ reads_on_entry step ]
 reads_at steps (Test i) = elim (slice_get steps i) [ None ↦ [] | Some step ↦ reads_in_test step ]
 reads_at steps (Gate j) = []
 reads_at steps Done = []
 
+-- the symbol that is written at a spot
 abbrev pub writes_at : List Step → Spot → Option ℕ
 writes_at steps (At i) = elim (slice_get steps i) [ None ↦ None | Some step ↦ written_by step ]
 writes_at steps (Test i) = None
 writes_at steps (Gate j) = None
 writes_at steps Done = None
 
+-- the symbol is in the list
 abbrev pub In : ℕ → List ℕ → Type 0
 In k [] = ⊥
 In k (x ∷ xs) = (k ≡ x) ⊎ In k xs
 
+-- the spot is in the list
 abbrev pub Among : Spot → List Spot → Type 0
 Among p [] = ⊥
 Among p (q ∷ qs) = (p ≡ q) ⊎ Among p qs

@@ -13,6 +13,7 @@ use Rattle.oso_code.specs.declared.raw.Raw.{Raw}
 abbrev pub with_ops : ℕ → State → State
 with_ops n s = record { values = s.values; turns = s.turns; reads = s.reads; ops = n }
 
+-- the same end, with another count
 abbrev pub recounted : ℕ → Outcome → Outcome
 recounted n (Next s) = Next (with_ops n s)
 recounted n (Jumps way s) = Jumps way (with_ops n s)
@@ -23,13 +24,16 @@ unfoldable pub quiet : Sources → List Step → ℕ → Run
 quiet from steps zero i e s = Next s
 quiet from steps (suc n) i e s = either (nat_lt i e) (λ s1. act from (quiet from steps n) (slice_get steps i) i e s1) Next s
 
+-- the ops from i up to e, none counted
 abbrev pub quiet_range : Sources → List Step → Run
 quiet_range from steps i e s = quiet from steps (length steps) i e s
 
+-- sections, one after another, with no op counted
 abbrev pub quiet_sections : Sources → List Step → List Section → State → Outcome
 quiet_sections from steps [] s = Next s
 quiet_sections from steps (section ∷ sections) s = then_do (quiet_range from steps section.start section.end s) (quiet_sections from steps sections)
 
+-- the run of a layer, with no op counted
 abbrev pub quiet_layer : Raw → Inputs → Point → ℕ → Outcome
 quiet_layer raw inputs point budget =
     quiet_sections (sources_of raw inputs) (steps_of raw) (filter (is_run inputs) raw.sections) (start_of raw inputs point budget)

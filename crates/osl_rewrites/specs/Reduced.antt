@@ -45,14 +45,17 @@ is_written_outside sections k at [] = false
 is_written_outside sections k at (op ∷ ops) =
     (elim (written op) [ None ↦ false | Some w ↦ (w == k) && not (is_owner (owner_at sections at) k) ]) || is_written_outside sections k (at + 1) ops
 
+-- the parameter has a section of its own, which computes its default
 abbrev pub has_section : List Section → ℕ → Bool
 has_section sections k = list_any (λ section. is_owner section.param k) sections
 
+-- the value of a parameter that is locked and not written outside its section: the instance value, or the stated one if no section computes it
 abbrev pub held_value : Outside → Raw → ℕ → Symbol → Option AnyValue
 held_value o raw k symbol =
     if not (o.locked k) || is_written_outside raw.sections k 0 raw.ops then None
     else elim (o.instance k) [ None ↦ if has_section raw.sections k then None else Some (stated symbol.ty symbol.value) | Some v ↦ Some v ]
 
+-- of constants and of such parameters the value is known
 abbrev pub known_class : Outside → Raw → ℕ → Symbol → Class → Option AnyValue
 known_class o raw k symbol Param = held_value o raw k symbol
 known_class o raw k symbol Oparam = held_value o raw k symbol
@@ -61,6 +64,7 @@ known_class o raw k symbol Const = Some (stated symbol.ty symbol.value)
 known_class o raw k symbol Local = None
 known_class o raw k symbol Temp = None
 
+-- the known symbols of code
 unfoldable pub known_in : Outside → Raw → Known
 known_in o raw k = elim (slice_get raw.symbols k) [ None ↦ None | Some symbol ↦ known_class o raw k symbol symbol.class ]
 
@@ -71,10 +75,12 @@ abbrev pub plain_from : List Symbol → Step → Option (ℕ × ℕ)
 plain_from symbols (Compute Assign ty target (c ∷ [])) = if same_type (type_at symbols c) ty then Some (target, c) else None
 plain_from symbols step = None
 
+-- the step writes the symbol
 abbrev pub writes_it : ℕ → Step → Bool
 writes_it k (Compute name ty target sources) = target == k
 writes_it k step = false
 
+-- how many steps write the symbol
 abbrev pub writes_of : ℕ → List Step → ℕ
 writes_of k steps = length (filter (writes_it k) steps)
 
@@ -88,6 +94,7 @@ pub record IsOnce (known : Known) (raw : Raw) (k p c : ℕ) (v : AnyValue) : Typ
 
 -- ---- what an op may not be
 
+-- known, and a condition that does not hold
 abbrev pub is_known_zero : Option AnyValue → Bool
 is_known_zero None = false
 is_known_zero (Some v) = not (is_so v)
@@ -109,10 +116,12 @@ folds known symbols step = false
 abbrev pub row_applies : Outside → Known → Ty → List ℕ → Identity → Bool
 row_applies o known ty sources id = row_fits known ty sources id && not (list_any (λ k. o.unsure k) (no_longer_read id.becomes sources))
 
+-- an op with a row of the table that applies
 abbrev pub simplifies : Outside → Known → Step → Bool
 simplifies o known (Compute name ty target sources) = list_any (row_applies o known ty sources) (forms_of name)
 simplifies o known step = false
 
+-- the parameter is connected to a constant output
 abbrev pub is_constant : Outside → ℕ → Bool
 is_constant o k = is_some (o.constant k)
 
@@ -128,25 +137,30 @@ pub record IsDead (o : Outside) (raw : Raw) (around : ℕ → Around) (i : ℕ) 
 
 -- ---- roomy
 
+-- the slots of all values that ops write
 abbrev pub slots_written : List Step → ℕ
 slots_written [] = 0
 slots_written (Compute name ty target sources ∷ steps) = slot_count ty + slots_written steps
 slots_written (step ∷ steps) = slots_written steps
 
+-- the slots of connected parameters
 abbrev pub connected_slots : (ℕ → Bool) → ℕ → List Symbol → ℕ
 connected_slots wired at [] = 0
 connected_slots wired at (symbol ∷ symbols) = (if wired at then slot_count symbol.ty else 0) + connected_slots wired (at + 1) symbols
 
+-- the number of connected parameters
 abbrev pub connected : (ℕ → Bool) → ℕ → List Symbol → ℕ
 connected wired at [] = 0
 connected wired at (symbol ∷ symbols) = (if wired at then 1 else 0) + connected wired (at + 1) symbols
 
+-- code that stays within the limits if each op and each connected parameter adds a constant
 pub record IsRoomy (wired : ℕ → Bool) (raw : Raw) : Type 0 where
   pub few : length raw.symbols + length raw.ops + connected wired 0 raw.symbols ≤ 65536
   pub small : slots_of raw.symbols + slots_written (steps_of raw) + connected_slots wired 0 raw.symbols ≤ 65536
 
 -- ---- constant outputs
 
+-- the step may end the layer early
 abbrev pub leaves_layer : Step → Bool
 leaves_layer (Leave Return) = true
 leaves_layer (Leave Exit) = true
@@ -159,6 +173,7 @@ pub data Constant (known : Known) (raw : Raw) (k : ℕ) (v : AnyValue) : Type 0 
 
 -- ---- a reduced layer, by one table of what is around its ops
 
+-- no rewrite applies: no decided condition, no op that folds or simplifies, no read that could be of a constant, no dead op; where code is too large for new constants, those that need one are not asked
 pub record IsReducedLayer (o : Outside) (wired : ℕ → Bool) (old raw : Raw) : Type 0 where
   pub table : ℕ → Around
   pub surrounds : Surrounds (steps_of raw) raw.sections table

@@ -8,11 +8,13 @@ use Rattle.oso_code.specs.declared.raw.Raw.{Raw}
 use Rattle.oso_code.specs.declared.symbol.Symbol.{Symbol}
 use Rattle.osl_rewrites.specs.Cut.{cut}
 
--- ---- the forms of all rewrites: ops are replaced where they stand, symbols are added behind, ops are taken out
+-- ---- the forms of all rewrites: an op is replaced in place, a symbol is added as the last, ops are taken out
 
+-- the code with this op at i
 abbrev pub with_op_at : Raw → ℕ → Op → Raw
 with_op_at raw i op = record { kind = raw.kind; name = raw.name; metas = raw.metas; symbols = raw.symbols; sections = raw.sections; ops = slice_set raw.ops i op }
 
+-- the code with one more symbol, the last
 abbrev pub with_symbol : Raw → Symbol → Raw
 with_symbol raw symbol = record { kind = raw.kind; name = raw.name; metas = raw.metas; symbols = raw.symbols ++ symbol ∷ []; sections = raw.sections; ops = raw.ops }
 
@@ -24,11 +26,13 @@ assign_to op c = record { name = Assign; args = elim (op.args) [ [] ↦ [] | k �
 abbrev pub calls_nothing : ℕ → Op
 calls_nothing i = record { name = FunctionCall; args = []; jumps = (i + 1) ∷ [] }
 
+-- the op with symbol c as its argument j
 abbrev pub with_argument : Op → ℕ → ℕ → Op
 with_argument op j c = record { name = op.name; args = slice_set op.args j c; jumps = op.jumps }
 
 -- ---- what stays of an op that gives way to one of its ranges
 
+-- the place is in the span
 abbrev pub in_span : ℕ → Span → Bool
 in_span k s = nat_le s.start k && nat_lt k s.end
 

@@ -8,6 +8,7 @@ use Rattle.oso_code.specs.Nesting.{IsClosed}
 use Rattle.oso_code.specs.Run.{State, with_turns, Sources, Reading, Gives, Spent, read, arguments, Outcome, Next, Jumps, Tested, Holds, Fails, Ends, Run, act}
 use Rattle.oso_code.specs.Steps.{Span, Way, Break, Continue, Return, Exit, Step, Compute, Branch, Loop, Call, Leave}
 
+-- a relation of two states
 abbrev pub Relation : Type 1
 Relation = State → State → Type 0
 
@@ -28,6 +29,7 @@ abbrev pub MatchReading : AtEnds → Relation → Reading → Reading → Type 0
 MatchReading k R (Gives v s) o = (t : State) × (o ≡ Gives v t) × R s t
 MatchReading k R (Spent s) o = (t : State) × (o ≡ Spent t) × k.spent s t
 
+-- both tests hold, or fail, or end the loop in the same way
 abbrev pub MatchTested : Relation → Relation → AtEnds → Tested → Tested → Type 0
 MatchTested good bad k (Holds s) o = (t : State) × (o ≡ Holds t) × good s t
 MatchTested good bad k (Fails s) o = (t : State) × (o ≡ Fails t) × bad s t
@@ -44,6 +46,7 @@ out_of_body step out jumps Continue = step
 out_of_body step out jumps Return = jumps Return
 out_of_body step out jumps Exit = jumps Exit
 
+-- what holds at the ends of a loop's body
 abbrev pub looping : Relation → Relation → AtEnds → AtEnds
 looping step out k = record { next = step; jumps = out_of_body step out k.jumps; spent = k.spent }
 
@@ -54,6 +57,7 @@ out_of_call R jumps Continue = R
 out_of_call R jumps Return = R
 out_of_call R jumps Exit = jumps Exit
 
+-- what holds at the ends of a called range
 abbrev pub calling : Relation → AtEnds → AtEnds
 calling R k = record { next = R; jumps = out_of_call R k.jumps; spent = k.spent }
 
@@ -69,6 +73,7 @@ pub record Turning (k : AtEnds) (R : Relation) : Type 0 where
   pub none : (s t : State) → R s t → k.spent s t
   pub taken : (n : ℕ) (s t : State) → R s t → R (with_turns n s) (with_turns n t)
 
+-- one or the other type, by a test
 abbrev pub whether : Bool → Type 0 → Type 0 → Type 0
 whether true A B = A
 whether false A B = B
@@ -77,6 +82,7 @@ whether false A B = B
 abbrev pub before_place : (ℕ → Relation) → ℕ → ℕ → AtEnds → Relation
 before_place B i e k s t = whether (nat_lt i e) (B i s t) (k.next s t)
 
+-- what holds before a span is run
 abbrev pub before : (ℕ → Relation) → Span → AtEnds → Relation
 before B span k = before_place B span.start span.end k
 
@@ -103,6 +109,7 @@ Swap from from' R Fine name ty sources name' sources' =
     (go go' : AnyValue → State → Outcome) → ((v : AnyValue) (a b : State) → Fine v → R a b → Match (always R) (go v a) (go' v b))
     → (s t : State) → R s t → Match (always R) (arguments from sources s (λ vs s1. go (apply name ty vs) s1)) (arguments from' sources' t (λ vs t1. go' (apply name' ty vs) t1))
 
+-- the step writes no symbol
 abbrev pub IsControl : Step → Type 0
 IsControl (Compute name ty target sources) = ⊥
 IsControl (Branch c holds fails) = Unit {0}
