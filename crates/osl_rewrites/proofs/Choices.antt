@@ -1,5 +1,5 @@
 -- Code in which a control op gave way to one of its ranges runs as before.
-use Rattle.std.proofs.Common.{◌≡◌, ℕ, zero, suc, ◌+◌, ◌-◌, ◌<◌, ◌≤◌, ⊎_elim, List, length, Option, Some, None, Bool, true, false, refl, sym, ap, ◌∙◌, subst, arith}
+use Rattle.std.proofs.Common.{◌≡◌, ℕ, zero, suc, ◌+◌, ◌-◌, ◌<◌, ◌≤◌, ⊎_elim, List, length, Option, Some, None, Bool, true, false, refl, sym, ap, ◌∙◌, subst, arith, ◌⊎◌}
 use Rattle.std.specs.Prelude.{slice_get}
 use Rattle.std.proofs.lemmas.Bool.{cases_lt}
 use Rattle.oso_code.specs.Nesting.{IsClosed, IsInside, AreNested, AreTiled}
@@ -8,7 +8,7 @@ use Rattle.oso_code.specs.Steps.{Span, Step, Compute, Branch, Loop, Call, Leave}
 use Rattle.oso_code.proofs.Steady.{closed_later}
 use Rattle.osl_rewrites.specs.Choice.{Chosen, KeptChoice}
 use Rattle.osl_rewrites.specs.Cut.{new_place, CutSteps, RunsIn, Parts, Goes, Fate, Kept, Gone, Moves}
-use Rattle.osl_rewrites.specs.Quiet.{quiet}
+use Rattle.osl_rewrites.specs.Quiet.{quiet, quiet_range}
 use Rattle.osl_rewrites.proofs.Cuts.{rises, none_more, closed_cut, nested_cut, stays_cut}
 use Rattle.osl_rewrites.proofs.Moved.{moved_run}
 use Rattle.osl_rewrites.proofs.Uniform.{is_there}
@@ -100,3 +100,11 @@ module _ (from : Sources) (kept : ℕ → Bool) (old new : List Step) (p l m b :
 
   pub choice_run : (f g i e : ℕ) (s : State) → Runs i e → e ≤ f + i → new_place kept e ≤ g + new_place kept i → quiet from old f i e s ≡ quiet from new g (new_place kept i) (new_place kept e) s
   choice_run f g i e s r lf lg = moved_run from (new_place kept) Runs old new (nested_cut kept old new cut nested) moves f g i e s r lf lg
+
+-- a range that does not start among the op's ranges
+pub choice_range : (from : Sources) (kept : ℕ → Bool) (old new : List Step) (p l m b : ℕ) (head : Step) → AreNested old → AreTiled old → CutSteps kept old new → Chosen from old p l m b head → KeptChoice kept p l m b
+    → (i e : ℕ) (s : State) → IsClosed old i e → e ≤ length old → (i ≤ p) ⊎ (b ≤ i) → quiet_range from old i e s ≡ quiet_range from new (new_place kept i) (new_place kept e) s
+choice_range from kept old new p l m b head nested tiled cuts chosen choice i e s closed within outside =
+    let r = rises kept e (length old) within in let z = cuts.size in
+    choice_run from kept old new p l m b head nested tiled cuts chosen choice (length old) (length new) i e s
+    (record { closed = closed; within = within; reach = λ x y w. absurd (⊎_elim (λ le. omega (arith, le, y)) (λ le. omega (arith, le, w)) outside) }) (omega (arith, within)) (omega (arith, r, z))

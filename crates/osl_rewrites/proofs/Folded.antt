@@ -1,15 +1,16 @@
 -- Two codes that are equal under what is known run alike, each from a start of its own.
-use Rattle.std.proofs.Common.{◌≡◌, ℕ, suc, List, [], ◌∷◌, length, Option, Some, None, refl, sym, ap, ◌∙◌, subst, arith}
+use Rattle.std.proofs.Common.{◌≡◌, ℕ, suc, List, [], ◌∷◌, length, Option, Some, None, refl, sym, ap, ◌∙◌, subst, arith, ◌+◌}
 use Rattle.std.specs.Prelude.{slice_get}
 use Rattle.osl_value.specs.AnyValue.{AnyValue}
 use Rattle.oso_code.specs.Nesting.{AreNested}
 use Rattle.oso_code.specs.Run.{State, Sources, Outcome, Next, Jumps, Spent, then_do}
 use Rattle.oso_code.specs.Steps.{Step}
 use Rattle.oso_code.specs.declared.op.Section.{Section}
-use Rattle.osl_rewrites.specs.Known.{Known, hold, Sound}
+use Rattle.osl_rewrites.specs.Known.{Known, hold, Sound, Knowing}
 use Rattle.osl_rewrites.specs.Quiet.{quiet, quiet_range, quiet_sections}
-use Rattle.osl_rewrites.specs.Side.{Match, always, MayRun}
-use Rattle.osl_rewrites.proofs.Held.{Knowing, held}
+use Rattle.osl_rewrites.specs.Side.{Match, always, MayRun, SameState, SameEnd}
+use Rattle.osl_rewrites.specs.Laws.{AllClosed, InSections}
+use Rattle.osl_rewrites.proofs.Held.{held}
 use Rattle.osl_rewrites.proofs.Match.{then_match}
 
 abbrev pub MayRunAll : List Step → (ℕ → Type 0) → List Section → Type 0
@@ -30,17 +31,6 @@ module _ (known : Known) (from : Sources) (May : ℕ → Type 0) where
   sections_equal old new size same (section ∷ sections) s =
       (λ j. then_do (same (length old) section.start section.end s j) (λ t. sections_equal old new size same sections t j))
       ∙ ap (λ n. then_do (quiet (hold known from) new n section.start section.end s) (quiet_sections (hold known from) new sections)) size
-
-  -- the same end, in states that agree on all symbols: on the known ones, since both know them
-  pub record SameState (s t : State) : Type 0 where
-    pub values : (k : ℕ) → s.values k ≡ t.values k
-    pub turns : s.turns ≡ t.turns
-    pub reads : s.reads ≡ t.reads
-
-  abbrev pub SameEnd : Outcome → Outcome → Type 0
-  SameEnd (Next s) o = (t : State) × (o ≡ Next t) × SameState s t
-  SameEnd (Jumps way s) o = (t : State) × (o ≡ Jumps way t) × SameState s t
-  SameEnd (Spent s) o = (t : State) × (o ≡ Spent t) × SameState s t
 
   both : (s t m n : State) → Knowing known s m → Knowing known t n → m ≡ n → SameState s t
   both s t m n a b e = record {
@@ -75,3 +65,12 @@ module _ (known : Known) (from : Sources) (May : ℕ → Type 0) where
       meet (quiet_sections from old sections s) (quiet_sections from new sections t) (quiet_sections (hold known from) new sections m)
       (subst (λ o. Match (always (Knowing known)) (quiet_sections from old sections s) o) (sections_equal old new size same sections m) (sections_held old n1 s1 sections m1 s m a))
       (sections_held new n2 s2 sections m2 t m b)
+
+-- over the places of the sections
+pub folded_sections : (known : Known) (from : Sources) (old new : List Step) (sections : List Section) (s t between : State) → AreNested old → AreNested new → length old ≡ length new → AllClosed old sections → AllClosed new sections
+    → Sound known from old (InSections sections) → Sound known from new (InSections sections) → ((f i e : ℕ) (u : State) → quiet (hold known from) old f i e u ≡ quiet (hold known from) new f i e u)
+    → Knowing known s between → Knowing known t between → SameEnd (quiet_sections from old sections s) (quiet_sections from new sections t)
+folded_sections known from old new sections s t between n1 n2 size c1 c2 s1 s2 same a b =
+    folded_run known from (InSections sections) old new n1 n2 s1 s2 size same sections
+    (λ j section is. record { closed = (c1 j section is).0; within = (c1 j section is).1; each = λ k x y. (j, section, is, x, y) })
+    (λ j section is. record { closed = (c2 j section is).0; within = (c2 j section is).1; each = λ k x y. (j, section, is, x, y) }) s t between a b

@@ -1,14 +1,14 @@
 -- A run from a state that has the known symbols' values is the run with those symbols held, from any state that agrees on the others.
-use Rattle.std.proofs.Common.{◌≡◌, ℕ, ◌+◌, ◌≤◌, ⊎_elim, List, Option, Some, None, true, refl, sym, ap, ◌∙◌, subst}
+use Rattle.std.proofs.Common.{◌≡◌, ℕ, ◌+◌, ◌≤◌, ⊎_elim, List, Option, Some, None, true, refl, sym, ap, ◌∙◌, subst, ◌<◌, length, arith}
 use Rattle.std.specs.Prelude.{slice_get, nat_eq, if◌then◌else◌}
 use Rattle.std.proofs.lemmas.Bool.Decides.{eqb_tells}
 use Rattle.osl_value.specs.AnyValue.{AnyValue}
 use Rattle.osl_value.specs.Apply.{apply}
-use Rattle.oso_code.specs.Nesting.{AreNested}
+use Rattle.oso_code.specs.Nesting.{AreNested, IsClosed}
 use Rattle.oso_code.specs.Run.{State, read, put, write, note, Source, Own, Wired, Held, Sources, Gives, read_from}
 use Rattle.oso_code.specs.Steps.{Step, Compute, Branch, Loop, Call, Leave}
-use Rattle.osl_rewrites.specs.Known.{Known, held_as, hold, Knows, Sound, Alike}
-use Rattle.osl_rewrites.specs.Quiet.{quiet}
+use Rattle.osl_rewrites.specs.Known.{Known, held_as, hold, Knows, Sound, Alike, Knowing}
+use Rattle.osl_rewrites.specs.Quiet.{quiet, quiet_range}
 use Rattle.osl_rewrites.specs.Side.{Match, MatchReading, always, MayRun, Twin, Same, Swapped}
 use Rattle.osl_rewrites.proofs.Uniform.{args_match, uniform}
 
@@ -19,10 +19,6 @@ put_other k w v f h = ⊎_elim (λ y. absurd (h y.1)) (λ n. ap (λ b. if b then
 pub put_same : {X : Type 0} (k w : ℕ) (v : X) (f g : ℕ → X) → f k ≡ g k → put w v f k ≡ put w v g k
 unfolding put
 put_same k w v f g is = ap (λ x. if nat_eq k w then v else x) is
-
-pub record Knowing (known : Known) (s t : State) : Type 0 where
-  pub alike : Alike known s t
-  pub knows : Knows known s
 
 module _ (known : Known) where
   noted : (k : ℕ) (s t : State) → Knowing known s t → Knowing known (note k s) (note k t)
@@ -61,3 +57,9 @@ module _ (known : Known) where
       twins j (Loop tested c test body step) may at = Same (Loop tested c test body step) tt at
       twins j (Call body) may at = Same (Call body) tt at
       twins j (Leave way) may at = Same (Leave way) tt at
+
+-- a range by itself
+pub range_held : (known : Known) (from : Sources) (steps : List Step) (i e : ℕ) (s t : State) → AreNested steps → IsClosed steps i e → e ≤ length steps → Sound known from steps (λ k. (i ≤ k) × (k < e)) → Knowing known s t
+    → Match (always (Knowing known)) (quiet_range from steps i e s) (quiet_range (hold known from) steps i e t)
+range_held known from steps i e s t nested closed within sound r =
+    held known from steps (λ k. (i ≤ k) × (k < e)) nested sound (length steps) i e s t (record { closed = closed; within = within; each = λ k a b. (a, b) }) (omega (arith, within)) r

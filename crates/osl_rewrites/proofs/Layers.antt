@@ -8,7 +8,7 @@ use Rattle.oso_code.specs.Run.{State, Sources, then_do}
 use Rattle.oso_code.specs.Steps.{Way, Break, Continue, Return, Exit, Step}
 use Rattle.oso_code.specs.declared.op.Section.{Section}
 use Rattle.osl_rewrites.specs.Cut.{moved_section}
-use Rattle.osl_rewrites.specs.Drop.{Agree, NoNewRead, ends_around, Spared}
+use Rattle.osl_rewrites.specs.Drop.{layer_ends, Agree, NoNewRead, ends_around, Spared}
 use Rattle.osl_rewrites.specs.Flow.{Spot, Gate, Done, Around, left_to, first, within_section, Surrounds, gate_nexts, Among, Settled}
 use Rattle.osl_rewrites.specs.Quiet.{quiet, quiet_range, quiet_sections}
 use Rattle.osl_rewrites.specs.Side.{AtEnds, Match, going_on, Into}
@@ -34,10 +34,6 @@ module _ (from : Sources) (old new : List Step) (to : ℕ → ℕ) (inputs : Inp
       same_by (is_run inputs section) section (filter (is_run inputs) sections) (filter (is_run inputs) (map (moved_section to) sections)) (h 0 section refl) (sections_same sections (λ j x is. h (suc j) x is)) s
 
 -- ---- sections with dead ops
-
--- a layer's end
-abbrev pub layer_ends : (Spot → ℕ → Bool) → AtEnds
-layer_ends row = record { next = Agree (row Done); jumps = λ way. Agree (row Done); spent = NoNewRead }
 
 module _ (from : Sources) (old new : List Step) (sections : List Section) (nested : AreNested old) (around : ℕ → Around) (surrounds : Surrounds old sections around) (asked : ℕ → Bool) (row : Spot → ℕ → Bool) (settled : Settled old sections around asked row)
     (spared : (i : ℕ) → i < length old → Spared from around row old new i) (same_size : length old ≡ length new) (inputs : Inputs)

@@ -8,7 +8,7 @@ use Rattle.osl_value.specs.AnyValue.{AnyValue, type_of}
 use Rattle.osl_value.specs.Apply.{apply}
 use Rattle.osl_value.proofs.TableLaws.{copies_its_type}
 use Rattle.oso_code.specs.Nesting.{after, IsClosed, IsInside, AreNested}
-use Rattle.oso_code.specs.Run.{State, put, write, note, with_turns, Source, Own, Wired, Held, Sources, Gives, read, read_from, Outcome, with_value, arguments}
+use Rattle.oso_code.specs.Run.{State, put, write, note, with_turns, Source, Own, Wired, Held, Sources, Gives, read, read_from, Outcome, with_value, arguments, Next, Jumps, Spent}
 use Rattle.oso_code.specs.Steps.{Span, Way, Break, Continue, Return, Exit, Step, Compute, Branch, Loop, Call, Leave}
 use Rattle.oso_code.proofs.Steady.{closed_later}
 use Rattle.osl_rewrites.specs.Once.{Once, CopiedOne, CopiedAll, CopyFate, Stood, Reread, RereadBranch, RereadLoop}
@@ -250,3 +250,14 @@ module _ (from : Sources) (old new : List Step) (nested : AreNested old) (p k c 
         start : (a : Bool) → whether a (B i s s) (R false s s)
         start true = record { one = refl; knows = λ q. absurd (let z = at_is i q in omega (arith, z, le)) }
         start false = record { one = refl; knows = λ q. absurd (cc q) }
+
+-- the same end, in one state
+same_end : (from : Sources) (old new : List Step) (nested : AreNested old) (p k c : ℕ) (v : AnyValue) (once : Once from old p k c v) (o o' : Outcome) → Match (both from old new nested p k c v once false) o o' → o ≡ o'
+same_end from old new nested p k c v once (Next s) o' (t, is, r) = ap Next r.one ∙ sym is
+same_end from old new nested p k c v once (Jumps way s) o' (t, is, r) = ap (Jumps way) r.one ∙ sym is
+same_end from old new nested p k c v once (Spent s) o' (t, is, r) = ap Spent r.one ∙ sym is
+
+pub copies_same : (from : Sources) (old new : List Step) (p k c : ℕ) (v : AnyValue) (f i e : ℕ) (s : State) → AreNested old → Once from old p k c v → ((j : ℕ) → j < length old → CopyFate k c p old new j)
+    → slice_get new p ≡ Some (Compute Assign (type_of v) k (c ∷ [])) → IsClosed old i e → e ≤ length old → i ≤ p → e ≤ f + i → quiet from old f i e s ≡ quiet from new f i e s
+copies_same from old new p k c v f i e s nested once fates stays closed within before bound =
+    same_end from old new nested p k c v once (quiet from old f i e s) (quiet from new f i e s) (copy_run from old new nested p k c v once fates stays f i e s closed within before bound)

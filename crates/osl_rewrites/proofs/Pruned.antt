@@ -17,14 +17,14 @@ use Rattle.oso_code.specs.declared.op.Section.{Section}
 use Rattle.oso_code.proofs.Chained.{section_closed, section_within}
 use Rattle.oso_code.proofs.Nested.{valid_nested}
 use Rattle.osl_rewrites.specs.Cut.{new_place, moved, cut, CutSteps}
-use Rattle.osl_rewrites.specs.Drop.{AllSure, Spared, Stood, Died}
+use Rattle.osl_rewrites.specs.Drop.{AllSure, Dead, layer_ends, Spared, Stood, Died}
 use Rattle.osl_rewrites.specs.Flow.{Spot, Gate, Around, first, Surrounds, Settled}
 use Rattle.osl_rewrites.specs.Quiet.{quiet_layer}
 use Rattle.osl_rewrites.specs.Side.{Match}
 use Rattle.osl_rewrites.proofs.CutCode.{cut_steps}
 use Rattle.osl_rewrites.proofs.Cuts.{rises, nothings_run}
 use Rattle.osl_rewrites.proofs.Drops.{agree_self}
-use Rattle.osl_rewrites.proofs.Layers.{layer_ends, sections_same, dead_sections}
+use Rattle.osl_rewrites.proofs.Layers.{sections_same, dead_sections}
 use Rattle.osl_rewrites.proofs.Uniform.{is_there}
 
 module _ (kept : ℕ → Bool) where
@@ -47,16 +47,7 @@ module _ (kept : ℕ → Bool) where
   ghost_length at (step ∷ steps) = let h = ghost_length (at + 1) steps in omega (arith, h)
 
   module _ (from : Sources) (old : List Step) (around : ℕ → Around) (row : Spot → ℕ → Bool) where
-    pub record Dead (i : ℕ) : Type 0 where
-      pub name : OpName
-      pub ty : Ty
-      pub target : ℕ
-      pub sources : List ℕ
-      pub here : slice_get old i ≡ Some (Compute name ty target sources)
-      pub sure : AllSure from sources
-      pub dead : row (first (i + 1) (around i)) target ≡ false
-
-    module _ (nested : AreNested old) (dies : (i : ℕ) → i < length old → kept i ≡ false → Dead i) where
+    module _ (nested : AreNested old) (dies : (i : ℕ) → i < length old → kept i ≡ false → Dead from old around row i) where
       mid : List Step
       mid = ghosted 0 old
 
@@ -77,7 +68,7 @@ module _ (kept : ℕ → Bool) where
       -- what is in the middle stood in the old code, or was dead there
       pub data Was (k : ℕ) (step : Step) : Type 0 where
         Stays : slice_get old k ≡ Some step → kept k ≡ true → Was k step
-        Goes : (dead : Dead k) → kept k ≡ false → step ≡ Call (span (k + 1) (k + 1)) → Was k step
+        Goes : (dead : Dead from old around row k) → kept k ≡ false → step ≡ Call (span (k + 1) (k + 1)) → Was k step
 
       was_by : (k : ℕ) (step : Step) (o : Option Step) (b : Bool) → slice_get old k ≡ o → kept k ≡ b → slice_get mid k ≡ Some step → k < length old → Was k step
       was_by k step None b at h is lt = absurd (is_there old k at lt)
@@ -134,7 +125,7 @@ module _ (kept : ℕ → Bool) where
           by_was k step h (Goes d g q) = absurd (cc (h, g))
 
 module _ (raw : Raw) (valid : IsValid raw) (kept : ℕ → Bool) (around : ℕ → Around) (surrounds : Surrounds (steps_of raw) raw.sections around) (asked : ℕ → Bool) (row : Spot → ℕ → Bool) (settled : Settled (steps_of raw) raw.sections around asked row) (inputs : Inputs)
-    (dies : (i : ℕ) → i < length (steps_of raw) → kept i ≡ false → Dead kept (sources_of raw inputs) (steps_of raw) around row i) where
+    (dies : (i : ℕ) → i < length (steps_of raw) → kept i ≡ false → Dead (sources_of raw inputs) (steps_of raw) around row i) where
   from : Sources
   from = sources_of raw inputs
 

@@ -8,7 +8,7 @@ use Rattle.osl_value.specs.Apply.{apply}
 use Rattle.oso_code.specs.Run.{State, Source, Own, Wired, Held, Sources}
 use Rattle.oso_code.specs.Steps.{Span, span, Step, Compute, Branch, Loop, Call}
 use Rattle.osl_rewrites.specs.Side.{AtEnds}
-use Rattle.osl_rewrites.specs.Flow.{Spot, Around, first, left_to}
+use Rattle.osl_rewrites.specs.Flow.{Spot, Done, Around, first, left_to}
 
 -- the same values where the row asks, the same turns, and no read that is new
 pub record Agree (row : ℕ → Bool) (s t : State) : Type 0 where
@@ -23,6 +23,10 @@ pub record NoNewRead (s t : State) : Type 0 where
 -- what holds at the ends of a range with this around it, by the rows of where they lead
 abbrev pub ends_around : (Spot → ℕ → Bool) → Around → AtEnds
 ends_around row a = record { next = Agree (row a.next); jumps = λ way. Agree (row (left_to a way)); spent = NoNewRead }
+
+-- what holds at a layer's end
+abbrev pub layer_ends : (Spot → ℕ → Bool) → AtEnds
+layer_ends row = record { next = Agree (row Done); jumps = λ way. Agree (row Done); spent = NoNewRead }
 
 -- none of the symbols comes from a layer that gave nothing
 abbrev pub AllSure : Sources → List ℕ → Type 0
@@ -53,6 +57,16 @@ WiredAll from [] [] = Unit {0}
 WiredAll from [] (q ∷ qs) = ⊥
 WiredAll from (k ∷ ks) [] = ⊥
 WiredAll from (k ∷ ks) (q ∷ qs) = WiredOne from k q × WiredAll from ks qs
+
+-- the op at i writes a symbol that is not live after it, and no read of it may end the run
+pub record Dead (from : Sources) (old : List Step) (around : ℕ → Around) (row : Spot → ℕ → Bool) (i : ℕ) : Type 0 where
+  pub name : OpName
+  pub ty : Ty
+  pub target : ℕ
+  pub sources : List ℕ
+  pub here : slice_get old i ≡ Some (Compute name ty target sources)
+  pub sure : AllSure from sources
+  pub dead : row (first (i + 1) (around i)) target ≡ false
 
 -- an op stays; or is dead after it and gives way to a call of nothing; or has one value whatever its arguments, of which it becomes an assign; or reads held symbols in place of connected ones
 pub data Spared (from : Sources) (around : ℕ → Around) (row : Spot → ℕ → Bool) (old new : List Step) (i : ℕ) : Type 0 where

@@ -9,3 +9,4 @@ pub mod Reduced
 pub mod Rewrites
 pub mod Choice
 pub mod Once
+pub mod Laws

@@ -150,3 +150,15 @@ pub data Place (from from' : Sources) (old new : List Step) (C : Type 0) (both :
       → Into (both inner) (calling (before_place B body.end e (both k)) (both k))
       → ((s t : State) → B i s t → before B body (both inner) s t)
       → Place from from' old new C both Runs B i e k
+
+-- states that agree on all but the count
+pub record SameState (s t : State) : Type 0 where
+  pub values : (k : ℕ) → s.values k ≡ t.values k
+  pub turns : s.turns ≡ t.turns
+  pub reads : s.reads ≡ t.reads
+
+-- the same end, in such states
+abbrev pub SameEnd : Outcome → Outcome → Type 0
+SameEnd (Next s) o = (t : State) × (o ≡ Next t) × SameState s t
+SameEnd (Jumps way s) o = (t : State) × (o ≡ Jumps way t) × SameState s t
+SameEnd (Spent s) o = (t : State) × (o ≡ Spent t) × SameState s t
