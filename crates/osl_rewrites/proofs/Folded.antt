@@ -1,5 +1,5 @@
 -- Two codes that are equal under what is known run alike, each from a start of its own.
-use Rattle.std.proofs.Common.{◌≡◌, ℕ, suc, List, [], ◌∷◌, length, Option, Some, None, refl, sym, ap, ◌∙◌, subst, arith, ◌+◌}
+use Rattle.std.proofs.Common.{◌≡◌, ℕ, suc, List, [], ◌∷◌, length, Option, Some, None, refl, sym, ap, ◌∙◌, subst, arith}
 use Rattle.std.specs.Prelude.{slice_get}
 use Rattle.osl_value.specs.AnyValue.{AnyValue}
 use Rattle.oso_code.specs.Nesting.{AreNested}

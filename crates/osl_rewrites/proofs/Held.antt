@@ -7,7 +7,7 @@ use Rattle.osl_value.specs.Apply.{apply}
 use Rattle.oso_code.specs.Nesting.{AreNested, IsClosed}
 use Rattle.oso_code.specs.Run.{State, read, put, write, note, Source, Own, Wired, Held, Sources, Gives, read_from}
 use Rattle.oso_code.specs.Steps.{Step, Compute, Branch, Loop, Call, Leave}
-use Rattle.osl_rewrites.specs.Known.{Known, held_as, hold, Knows, Sound, Alike, Knowing}
+use Rattle.osl_rewrites.specs.Known.{Known, held_as, hold, Sound, Knowing}
 use Rattle.osl_rewrites.specs.Quiet.{quiet, quiet_range}
 use Rattle.osl_rewrites.specs.Side.{Match, MatchReading, always, MayRun, Twin, Same, Swapped}
 use Rattle.osl_rewrites.proofs.Uniform.{args_match, uniform}

@@ -2,8 +2,6 @@
 use Rattle.std.proofs.Common.{◌≡◌, ℕ, zero, suc, ◌+◌, ◌<◌, ◌≤◌, List, [], ◌∷◌, length, Option, Some, None, Bool, true, false, refl, sym, ap, ◌∙◌, subst, arith}
 use Rattle.std.specs.Prelude.{slice_get, option_map, if◌then◌else◌}
 use Rattle.std.proofs.lemmas.Option.{slice_get_within}
-use Rattle.osl_value.specs.declared.op_name.OpName.{OpName}
-use Rattle.osl_value.specs.declared.types.Ty.{Ty}
 use Rattle.osl_value.specs.declared.point.Point.{Point}
 use Rattle.osl_layer.specs.Layer.{Inputs}
 use Rattle.oso_code.specs.CodeRun.{sources_of, start_of}
@@ -17,8 +15,8 @@ use Rattle.oso_code.specs.declared.op.Section.{Section}
 use Rattle.oso_code.proofs.Chained.{section_closed, section_within}
 use Rattle.oso_code.proofs.Nested.{valid_nested}
 use Rattle.osl_rewrites.specs.Cut.{new_place, moved, cut, CutSteps}
-use Rattle.osl_rewrites.specs.Drop.{AllSure, Dead, layer_ends, Spared, Stood, Died}
-use Rattle.osl_rewrites.specs.Flow.{Spot, Gate, Around, first, Surrounds, Settled}
+use Rattle.osl_rewrites.specs.Drop.{Dead, layer_ends, Spared, Stood, Died}
+use Rattle.osl_rewrites.specs.Flow.{Spot, Gate, Around, Surrounds, Settled}
 use Rattle.osl_rewrites.specs.Quiet.{quiet_layer}
 use Rattle.osl_rewrites.specs.Side.{Match}
 use Rattle.osl_rewrites.proofs.CutCode.{cut_steps}

@@ -1,8 +1,8 @@
 -- A control op with a known condition gives way to one of its ranges.
-use Rattle.std.specs.Prelude.{◌≡◌, ℕ, ◌+◌, ◌<◌, ◌≤◌, List, Bool, true, false, Some, slice_get}
+use Rattle.std.specs.Prelude.{◌≡◌, ℕ, ◌<◌, ◌≤◌, List, Bool, true, false, Some, slice_get}
 use Rattle.oso_code.specs.Nesting.{after, IsClosed}
 use Rattle.oso_code.specs.Run.{State, Sources, then_do, act}
-use Rattle.oso_code.specs.Steps.{Step, Compute, Branch, Loop, Call, Leave}
+use Rattle.oso_code.specs.Steps.{Step}
 use Rattle.osl_rewrites.specs.Quiet.{quiet}
 
 -- the op at p, whose ranges end at b, runs the one from l to m and nothing else

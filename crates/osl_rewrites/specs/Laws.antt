@@ -42,7 +42,7 @@ DeadOpsDrop =
     → ((i : ℕ) → i < length (steps_of raw) → kept i ≡ false → Dead (sources_of raw inputs) (steps_of raw) around row i)
     → Match (layer_ends row) (quiet_layer raw inputs point budget) (quiet_layer (cut kept raw) inputs point budget)
 
--- a control op with a known condition gives way to the range that it would run
+-- a control op that does just what one range of its does gives way to that range
 abbrev pub ChoicesRun : Type 0
 ChoicesRun =
     (from : Sources) (kept : ℕ → Bool) (old new : List Step) (p l m b : ℕ) (head : Step) (i e : ℕ) (s : State)

@@ -11,7 +11,7 @@ use Rattle.oso_code.specs.CodeRun.{stated}
 use Rattle.oso_code.specs.Ops.{owner_at, is_owner, type_at, written}
 use Rattle.oso_code.specs.Ranges.{around, steps_of}
 use Rattle.oso_code.specs.Run.{is_so}
-use Rattle.oso_code.specs.Steps.{Return, Exit, Step, Compute, Branch, Loop, Call, Leave}
+use Rattle.oso_code.specs.Steps.{Return, Exit, Step, Compute, Branch, Loop, Leave}
 use Rattle.oso_code.specs.Symbols.{is_empty}
 use Rattle.oso_code.specs.Uses.{reads_of}
 use Rattle.oso_code.specs.Valid.{slots_of}

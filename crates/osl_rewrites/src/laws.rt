@@ -17,7 +17,7 @@ pub fn dead_ops_drop()
     ensures { DeadOpsDrop }
 {}
 
-/// A control op with a known condition may give way to the range that it would run.
+/// A control op that does just what one range of its does may give way to that range.
 pub fn choices_run()
     ensures { ChoicesRun }
 {}
