@@ -54,6 +54,15 @@ shaped_loop steps i c a e here l1 l2 s t =
       record { later = omega (arith, l1, l2); ordered = omega arith; within = omega arith; closed = (shaped_none steps e).closed },
     ) (shaped_on steps (i + 1) a e l2 s t)
 
+-- a loop that tests last: its body comes first
+pub shaped_do : (steps : List Step) (i c a e : ℕ) → slice_get steps i ≡ Some (Loop false c (span a e) (span (i + 1) a) (span e e)) → i + 1 ≤ a → a ≤ e → Shaped steps (i + 1) a → Shaped steps a e → Shaped steps i e
+shaped_do steps i c a e here l1 l2 s t =
+    shaped_op steps i e (Loop false c (span a e) (span (i + 1) a) (span e e)) here (omega arith) (
+      record { later = omega (arith, l1); ordered = l2; within = omega arith; closed = t.closed },
+      record { later = omega arith; ordered = l1; within = l2; closed = s.closed },
+      record { later = omega (arith, l1, l2); ordered = omega arith; within = omega arith; closed = (shaped_none steps e).closed },
+    ) (shaped_on steps (i + 1) a e l2 s t)
+
 pub shaped_call : (steps : List Step) (i e : ℕ) → slice_get steps i ≡ Some (Call (span (i + 1) e)) → i + 1 ≤ e → Shaped steps (i + 1) e → Shaped steps i e
 shaped_call steps i e here le s =
     shaped_op steps i e (Call (span (i + 1) e)) here (omega arith) (record { later = omega arith; ordered = le; within = omega arith; closed = s.closed }) s
