@@ -31,7 +31,7 @@ abbrev first_length : List (List Ty) → ℕ
 first_length [] = 0
 first_length (x ∷ xs) = length x
 
-some_pair : {A B : Type 0} (x y : A × B) → Some x ≡ Some y → (x.0 ≡ y.0) × (x.1 ≡ y.1)
+pub some_pair : {A B : Type 0} (x y : A × B) → Some x ≡ Some y → (x.0 ≡ y.0) × (x.1 ≡ y.1)
 some_pair x y e = (ap (λ o. elim o [ None ↦ x.0 | Some p ↦ p.0 ]) e, ap (λ o. elim o [ None ↦ x.1 | Some p ↦ p.1 ]) e)
 
 empty_map : (f : ℕ → AnyValue) (rs : List ℕ) → map f rs ≡ [] → rs ≡ []

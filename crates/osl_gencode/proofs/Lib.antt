@@ -39,3 +39,4 @@ pub mod LayerStart
 pub mod LayerResults
 pub mod LayerCode
 pub mod PartUpdates
+pub mod StructureOutputs
