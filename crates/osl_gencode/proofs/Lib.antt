@@ -40,3 +40,4 @@ pub mod LayerResults
 pub mod LayerCode
 pub mod PartUpdates
 pub mod StructureOutputs
+pub mod TreeLaws
