@@ -116,7 +116,7 @@ argument_types (p ∷ ps) = p.value.types ++ argument_types ps
 abbrev pub argument_values : List Passed → List AnyValue
 argument_values passed = flat_map (λ arg. arg) (map value_passed passed)
 
-in_numbers : (r : ℕ) (types : List Ty) (vs : List AnyValue) (x : R.State) → In r types vs x → map x.values (numbers r (length types)) ≡ vs
+pub in_numbers : (r : ℕ) (types : List Ty) (vs : List AnyValue) (x : R.State) → In r types vs x → map x.values (numbers r (length types)) ≡ vs
 in_numbers r [] [] x p = refl
 in_numbers r [] (v ∷ vs) x p = let e = ap length p.typed in absurd (omega (arith, e))
 in_numbers r (t ∷ types) [] x p = let e = ap length p.typed in absurd (omega (arith, e))
@@ -132,11 +132,11 @@ in_numbers r (t ∷ types) (v ∷ vs) x p =
     tail_same : {a c : Ty} {xs ys : List Ty} → a ∷ xs ≡ c ∷ ys → xs ≡ ys
     tail_same e = ap rest_of e
 
-append_map : (f : ℕ → AnyValue) (xs ys : List ℕ) → map f (xs ++ ys) ≡ map f xs ++ map f ys
+pub append_map : (f : ℕ → AnyValue) (xs ys : List ℕ) → map f (xs ++ ys) ≡ map f xs ++ map f ys
 append_map f [] ys = refl
 append_map f (a ∷ xs) ys = ap (λ l. f a ∷ l) (append_map f xs ys)
 
-append_types : (xs ys : List AnyValue) → map type_of (xs ++ ys) ≡ map type_of xs ++ map type_of ys
+pub append_types : (xs ys : List AnyValue) → map type_of (xs ++ ys) ≡ map type_of xs ++ map type_of ys
 append_types [] ys = refl
 append_types (a ∷ xs) ys = ap (λ l. type_of a ∷ l) (append_types xs ys)
 

@@ -41,3 +41,4 @@ pub mod LayerCode
 pub mod PartUpdates
 pub mod StructureOutputs
 pub mod TreeLaws
+pub mod BraceLists
