@@ -42,3 +42,5 @@ pub mod PartUpdates
 pub mod StructureOutputs
 pub mod TreeLaws
 pub mod BraceLists
+pub mod ArrayElements
+pub mod ArrayLists
