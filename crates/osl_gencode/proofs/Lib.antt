@@ -44,3 +44,4 @@ pub mod TreeLaws
 pub mod BraceLists
 pub mod ArrayElements
 pub mod ArrayLists
+pub mod LoopsAround
