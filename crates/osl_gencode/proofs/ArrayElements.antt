@@ -1,5 +1,5 @@
 -- Brace lists of arrays: the items are written one after another, by a counter.
-use Rattle.std.proofs.Common.{◌≡◌, ℕ, zero, suc, ◌+◌, ◌<◌, ◌≤◌, ◌≢◌, List, [], ◌∷◌, ◌++◌, length, map, Option, Some, false, refl, sym, ap, ◌∙◌, subst, arith}
+use Rattle.std.proofs.Common.{◌≡◌, ℕ, suc, ◌+◌, ◌≤◌, ◌≢◌, List, [], ◌∷◌, ◌++◌, length, map, Some, refl, sym, ap, ◌∙◌, subst, arith}
 use Rattle.std.specs.Prelude.{slice_get, pos, FitsSigned}
 use Rattle.std.specs.Int.{w32, int_wrap}
 use Rattle.std.proofs.lemmas.Int.{int_wrap_fits}
@@ -7,7 +7,7 @@ use Rattle.std.proofs.lemmas.List.{length-map}
 use Rattle.osl_value.specs.declared.op_name.OpName.TheVariants.{AAssign, Add, Sub}
 use Rattle.osl_value.specs.declared.types.Base.TheVariants.{Int}
 use Rattle.osl_value.specs.declared.types.Ty.{Ty}
-use Rattle.osl_value.specs.AnyValue.{AnyValue, type_of, with_numbers}
+use Rattle.osl_value.specs.AnyValue.{AnyValue, with_numbers}
 use Rattle.osl_value.specs.Apply.{apply}
 use Rattle.osl_value.specs.Types.{only}
 use Rattle.oso_code.specs.declared.op.Op.{Op}

@@ -1,5 +1,5 @@
 -- An array is declared with a brace list: its items are evaluated, the array is zero, and then its first elements are written.
-use Rattle.std.proofs.Common.{◌≡◌, ℕ, zero, suc, ◌+◌, ◌<◌, ◌≤◌, ◌≢◌, ◌⊎◌, inl, inr, ⊎_elim, List, [], ◌∷◌, length, map, Option, Some, None, false, refl, sym, ap, ◌∙◌, subst, arith}
+use Rattle.std.proofs.Common.{◌≡◌, ℕ, zero, suc, ◌+◌, ◌<◌, ◌≤◌, ◌≢◌, ◌⊎◌, inl, inr, ⊎_elim, List, [], ◌∷◌, length, map, Option, Some, false, refl, sym, ap, ◌∙◌, subst, arith}
 use Rattle.std.specs.Prelude.{slice_get, pos, FitsSigned}
 use Rattle.std.specs.Int.{w32}
 use Rattle.std.proofs.lemmas.Bool.{cases_lt, cases_eq}
@@ -7,7 +7,6 @@ use Rattle.osl_value.specs.declared.op_name.OpName.TheVariants.{AAssign}
 use Rattle.osl_value.specs.declared.types.Base.TheVariants.{Int}
 use Rattle.osl_value.specs.declared.types.Ty.{Ty}
 use Rattle.osl_value.specs.AnyValue.{AnyValue, type_of, zero_value}
-use Rattle.osl_value.specs.Apply.{apply}
 use Rattle.osl_value.specs.Laws.{HasValues}
 use Rattle.osl_value.specs.Types.{only}
 use Rattle.osl_value.proofs.TableLaws.{applied_type}
@@ -26,7 +25,7 @@ use Rattle.osl_gencode.specs.Growth.{Extends}
 use Rattle.osl_gencode.specs.Bodies.{Body, Room, frame_end, IsVariable}
 use Rattle.osl_gencode.specs.RunEnds.{DoesCode}
 use Rattle.osl_gencode.specs.PartCodes.{AllOwn}
-use Rattle.osl_gencode.specs.Codes.{Anything, AllIn, AllWithin, ListCode, Place, StmtCode}
+use Rattle.osl_gencode.specs.Codes.{AllIn, AllWithin, ListCode, Place, StmtCode}
 use Rattle.osl_gencode.proofs.Growing.{get_some, covers_before, extends_on, extends_self, variable_later}
 use Rattle.osl_gencode.proofs.RangeRuns.{leads_on}
 use Rattle.osl_gencode.proofs.RelatedStates.{Wrote, above_own, kept_on, leaf_within, kept_temp, one_apart, related_temp, room_later, wrote_one}
@@ -36,7 +35,7 @@ use Rattle.osl_gencode.proofs.OpValues.{zero_type}
 use Rattle.osl_gencode.proofs.Operations.{AllSingle, all_unwired, firsts, values_of}
 use Rattle.osl_gencode.proofs.Constants.{IsConstant, constant_holds, constant_later}
 use Rattle.osl_gencode.proofs.ArgumentLists.{AreZeros, zero_held}
-use Rattle.osl_gencode.proofs.ArrayElements.{CanCount, ElementsCode, IsFree}
+use Rattle.osl_gencode.proofs.ArrayElements.{CanCount, ElementsCode}
 use Rattle.osl_gencode.proofs.CodeLists.{in_order_then}
 use Rattle.osl_gencode.proofs.Sequels.{value_code}
 

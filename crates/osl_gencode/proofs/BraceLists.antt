@@ -1,8 +1,7 @@
 -- Brace lists of structures: the fields in order, and zeros in the rest.
-use Rattle.std.proofs.Common.{◌≡◌, ℕ, zero, suc, ◌+◌, ◌<◌, ◌≤◌, ⊎_elim, List, [], ◌∷◌, ◌++◌, length, map, Option, Some, None, false, refl, sym, ap, ◌∙◌, subst, arith, length-append}
+use Rattle.std.proofs.Common.{◌≡◌, ℕ, zero, suc, List, [], ◌∷◌, ◌++◌, length, map, Option, Some, false, refl, sym, ap, ◌∙◌, arith}
 use Rattle.std.specs.Prelude.{slice_get, drop}
 use Rattle.std.specs.List.{flat_map}
-use Rattle.std.proofs.lemmas.Bool.{cases_lt}
 use Rattle.std.proofs.lemmas.List.{length-map}
 use Rattle.osl_value.specs.declared.types.Ty.{Ty}
 use Rattle.osl_value.specs.AnyValue.{AnyValue, type_of, zero_value}
@@ -13,18 +12,16 @@ use Rattle.oso_code.specs.declared.op.Op.{Op}
 use Rattle.oso_code.specs.declared.symbol.Symbol.{Symbol}
 use Rattle.oso_code.specs.Run as R
 use Rattle.osl_typed.specs.Ends.{Next}
-use Rattle.osl_typed.specs.Frames.{leaves_of, zeros_of}
-use Rattle.osl_typed.specs.State.{State, Gives, then_value, in_order, write_leaves}
+use Rattle.osl_typed.specs.Frames.{leaves_of}
+use Rattle.osl_typed.specs.State.{State, Gives, in_order, write_leaves}
 use Rattle.osl_typed.specs.Expressions.{Meaning}
 use Rattle.osl_typed.specs.Statements.{with_value, listed}
-use Rattle.osl_gencode.specs.Relation.{In, Related}
+use Rattle.osl_gencode.specs.Relation.{Related}
 use Rattle.osl_gencode.specs.Growth.{Extends}
 use Rattle.osl_gencode.specs.Bodies.{Body, Room}
-use Rattle.osl_gencode.specs.Codes.{Code, Place, AllIn, Anything, ListCode, StmtCode}
-use Rattle.osl_gencode.proofs.Growing.{get_left, get_some, get_there}
+use Rattle.osl_gencode.specs.Codes.{Place, AllIn, Anything, ListCode, StmtCode}
 use Rattle.osl_gencode.proofs.BlockMoves.{AreLeaves, AreSources, HeldIn, MoveCode, held_by}
 use Rattle.osl_gencode.proofs.OpValues.{zero_type}
-
 use Rattle.osl_gencode.proofs.ArgumentLists.{AreZeros, numbers, in_numbers, zero_held, append_map, append_types}
 use Rattle.osl_gencode.proofs.CodeLists.{code_as, in_order_then}
 use Rattle.osl_gencode.proofs.CalmCode.{code_to}
@@ -51,8 +48,8 @@ item_values (p ∷ ps) [] x all = absurd all
 item_values (p ∷ ps) (vs ∷ vss) x all =
     let rest = item_values ps vss x all.1 in (
       append_map x.values (numbers p.first (length p.types)) (item_symbols ps)
-      ∙ ap (λ l. l ++ map x.values (item_symbols ps)) (in_numbers p.first p.types vs x all.0)
-      ∙ ap (λ l. vs ++ l) rest.0,
+          ∙ ap (λ l. l ++ map x.values (item_symbols ps)) (in_numbers p.first p.types vs x all.0)
+          ∙ ap (λ l. vs ++ l) rest.0,
       append_types vs (flat_items vss) ∙ ap (λ l. l ++ map type_of (flat_items vss)) (all.0.typed) ∙ ap (λ l. p.types ++ l) rest.1,
     )
 
@@ -142,5 +139,5 @@ module _ (b : Body) (m : ℕ) (syms1 : List Symbol) (ps : List Place) (more : Li
       let types = leaves_of b.structures (Structure m) in
       let Q : List AnyValue → R.State → Type 0 = λ vs x. HeldIn list_sources types vs x in
       let value = code_as b ops0 ops1 syms0 syms1 Anything Q _ _ (λ j inputs a s. sym (in_order_then (sems inputs) s (λ vss s1. Gives (listed b.structures (Structure m) vss) s1)) j) (
-          code_to b ops0 ops1 syms0 syms1 Anything (AllIn ps) Q (listed b.structures (Structure m)) (λ inputs a s. in_order (sems inputs) s Gives) (λ syms vss s x ext rel all. list_held syms vss s x ext rel all) c.code) in
+      code_to b ops0 ops1 syms0 syms1 Anything (AllIn ps) Q (listed b.structures (Structure m)) (λ inputs a s. in_order (sems inputs) s Gives) (λ syms vss s x ext rel all. list_held syms vss s x ext rel all) c.code) in
       declare_code b result {P = Q} ops0 ops1 ops2 syms0 syms1 list_sources types k0 w (λ inputs s. in_order (sems inputs) s (λ vss s1. Gives (listed b.structures (Structure m) vss) s1)) loud room leaves sources value (λ syms s vs x ext rel held. held) mv

@@ -1,13 +1,13 @@
 -- A `break` and a `continue` have their loop: the innermost body around each is a loop's.
 use Rattle.std.proofs.Common.{◌≡◌, ℕ, zero, suc, ◌+◌, ◌<◌, ◌≤◌, ◌⊎◌, inl, inr, ⊎_elim, List, [], ◌∷◌, ◌++◌, Option, Some, Bool, true, false, refl, sym, ap, ◌∙◌, subst, arith}
-use Rattle.std.specs.Prelude.{slice_get, take, filter, flat_map, reverse, nat_le, nat_lt, if◌then◌else◌, ◌&&◌}
+use Rattle.std.specs.Prelude.{slice_get, take, filter, flat_map, reverse, nat_le, nat_lt, if◌then◌else◌}
 use Rattle.std.proofs.lemmas.List.{reverse-append}
-use Rattle.std.proofs.lemmas.Bool.{cases_lt, and_parts, and_from, leb-true, le-leb, ltb-true, lt-ltb}
+use Rattle.std.proofs.lemmas.Bool.{cases_lt, and_parts, and_from, le-leb, ltb-true, lt-ltb}
 use Rattle.oso_code.specs.declared.checks.role.Role.{Role}
 use Rattle.oso_code.specs.declared.checks.role.Role.TheVariants.{LoopBody, CallBody, Part}
 use Rattle.oso_code.specs.Nesting.{after, IsClosed}
 use Rattle.oso_code.specs.Ranges.{Ranged, ranges_of, contains, around, in_loop_body, in_body, leaving_fits}
-use Rattle.oso_code.specs.Steps.{Span, Step, Compute, Branch, Loop, Call, Leave, Break, Continue, Return, Exit, span}
+use Rattle.oso_code.specs.Steps.{Span, Step, Compute, Branch, Loop, Call, Leave, Break, Continue, Return, Exit}
 
 -- ---- one place
 

@@ -23,13 +23,13 @@ use Rattle.osl_typed.specs.declared.stmt.TypedStmt.{TypedStmt}
 use Rattle.osl_typed.specs.declared.stmt.TypedStmt.TheVariants as s
 use Rattle.osl_typed.specs.State.{Gives, Exits, then_value}
 use Rattle.osl_typed.specs.Parts.{single}
-use Rattle.osl_typed.specs.Ends.{Doing, Next, Breaks, Continues, then_do, in_turn, looped}
+use Rattle.osl_typed.specs.Ends.{Doing, Next, Breaks, Continues, then_do, looped}
 use Rattle.osl_typed.specs.Expressions.{Meaning, Calls, Passing, Copied, Lent, indexed, read_part, part_taken, promoted, both, either, chosen, assigned, updated, stepping, called, eval, pass}
 use Rattle.osl_typed.specs.Statements.{condition, declared_all, decided, done, exec, exec_all, returned, started, step_of}
 use Rattle.osl_typed.proofs.ExpressionLaws.{eval-Int, eval-Float, eval-Text, eval-Variable, eval-PartOf, eval-Paren, eval-Promote, eval-And, eval-Or, eval-Choose, eval-Assign, eval-Update, eval-Step, eval-Call, eval-Exit, pass-In, pass-Out}
 use Rattle.osl_typed.proofs.StatementLaws.{exec-Empty, exec-Block, exec-Declare, exec-Expr, exec-Break, exec-Continue, exec-Return, exec-If, exec-If-Else, exec-While, exec-DoWhile, exec-For}
 use Rattle.osl_gencode.specs.Bodies.{Body, frame_at}
-use Rattle.osl_gencode.specs.Codes.{Code, Shows, ExprCode, StmtCode, Anything}
+use Rattle.osl_gencode.specs.Codes.{Code, Shows, ExprCode, StmtCode}
 
 -- ---- expressions
 
