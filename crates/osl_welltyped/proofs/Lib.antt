@@ -28,3 +28,4 @@ pub mod Constants
 pub mod NamesKnown
 pub mod TypingsFit
 pub mod Examples
+pub mod SelectedTypes
