@@ -29,3 +29,5 @@ pub mod NamesKnown
 pub mod TypingsFit
 pub mod Examples
 pub mod SelectedTypes
+pub mod LeafRows
+pub mod LeafTypes

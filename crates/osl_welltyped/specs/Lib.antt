@@ -4,3 +4,4 @@ pub mod StatementsFit
 pub mod Measures
 pub mod WellTyped
 pub mod Agreement
+pub mod Typed
