@@ -31,3 +31,4 @@ pub mod Examples
 pub mod SelectedTypes
 pub mod LeafRows
 pub mod LeafTypes
+pub mod PartTypes
