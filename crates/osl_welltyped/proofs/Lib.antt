@@ -32,3 +32,4 @@ pub mod SelectedTypes
 pub mod LeafRows
 pub mod LeafTypes
 pub mod PartTypes
+pub mod NodeTypes
