@@ -10,7 +10,7 @@ use Rattle.osl_value.specs.declared.types.Ty.{Ty}
 use Rattle.osl_value.specs.AnyValue.{AnyValue, Parts, type_of}
 use Rattle.osl_value.specs.Apply.{apply}
 use Rattle.osl_value.specs.Laws.{HasValues}
-use Rattle.osl_value.specs.Types.{only, is_only, same_base}
+use Rattle.osl_value.specs.Types.{only, is_only, same_base, same_type}
 use Rattle.osl_value.proofs.SameTypes.{same_base-true, same_type-true}
 use Rattle.osl_value.proofs.TableLaws.{applied_type}
 use Rattle.osl_layer.specs.Layer.{Inputs}
@@ -20,12 +20,12 @@ use Rattle.osl_overload.specs.declared.signature.Kind.TheVariants.{Value, Struct
 use Rattle.osl_typed.specs.declared.expr.Argument.TheOpen as e
 use Rattle.osl_typed.specs.declared.expr.Part.{Part}
 use Rattle.osl_typed.specs.declared.expr.Root.{Root}
-use Rattle.osl_typed.specs.Expressions.{Meaning, Calls, holds, promoted, truth_value, both, either, expr_step, read_part}
+use Rattle.osl_typed.specs.Expressions.{Meaning, Calls, holds, promoted, truth_value, stored_as, both, either, expr_step, read_part}
 use Rattle.osl_typed.specs.Frames.{leaves_of, leaves_before}
 use Rattle.osl_typed.specs.Parts.{single, selection, field_leaves, write_part}
 use Rattle.osl_typed.specs.Selections.{part_kind, kind_at, component_count}
 use Rattle.osl_typed.specs.State.{State, ExpressionEnd, Gives, Exits, Spent, then_value, in_order}
-use Rattle.osl_welltyped.specs.Kinded.{Rules, is_type, is_kind, is_int, is_numeric, only_if, led_to, root_kind, kind_selects, part_fits, read_fits, stored_fits, plain_types, takes, promotes, kind_step}
+use Rattle.osl_welltyped.specs.Kinded.{Rules, is_type, is_kind, is_int, is_numeric, only_if, led_to, root_kind, kind_selects, part_fits, read_fits, stored_fits, plain_types, takes, promotes, is_stored_as, updates_by, kind_step}
 use Rattle.osl_welltyped.specs.Typed.{AreOfTypes, IsTypedState, EndsTyped, frame_by, types_by, IsTypedFrame}
 use Rattle.osl_welltyped.proofs.LeafRows.{lies_led}
 use Rattle.osl_welltyped.proofs.LeafTypes.{part_typed}
@@ -82,6 +82,28 @@ promoted_type ty v has =
     cond_both (same_base ty.base Closure) (Parts []) (apply Assign ty (v ∷ [])) (λ x. type_of x ≡ ty)
     (λ is. let base = same_base-true ty.base Closure is in let len = has base in sym (λ i. record { base = base i; len = len i }))
     (λ other. applied_type Assign ty (v ∷ []) has)
+
+-- `x op= e`, where what the operation gives may be stored
+record UpdateFits (k : Kind) (o : Option Kind) : Type 0 where
+  to : Ty
+  from : Ty
+  stored : k ≡ Value to
+  given : o ≡ Some (Value from)
+  has : HasValues to
+
+update_fits : (op : OpName) (ty : Ty) (k : Kind) (o : Option Kind) → updates_by op ty k o ≡ true → UpdateFits k o
+update_fits op ty (Structure m) o h = absurd (false≢true h)
+update_fits op ty Void o h = absurd (false≢true h)
+update_fits op ty (Value to) None h = absurd (false≢true h)
+update_fits op ty (Value to) (Some (Structure m)) h = absurd (false≢true h)
+update_fits op ty (Value to) (Some Void) h = absurd (false≢true h)
+update_fits op ty (Value to) (Some (Value from)) h =
+    let p = and_parts (takes op ty (Some (to ∷ from ∷ []))) (is_stored_as (Value to) (Value ty)) h in
+    record { to = to; from = from; stored = refl; given = refl; has = by (same_type ty to) refl (type_has ty (and_parts _ _ (and_parts _ _ p.0).0).0) p.1 }
+  where
+    by : (b : Bool) → same_type ty to ≡ b → HasValues ty → (b || is_some (promotion_of (Value ty) (Value to))) ≡ true → HasValues to
+    by true is has g = subst HasValues (same_type-true ty to is) has
+    by false is has g = promotion_has ty to g
 
 module _ (rules : Rules) (inputs : Inputs) (calls : Calls) (fit : IsTypedFrame rules inputs) where
   abbrev Typed : State → Type 0
@@ -185,7 +207,7 @@ module _ (rules : Rules) (inputs : Inputs) (calls : Calls) (fit : IsTypedFrame r
       let f = fits (root_kind rules root) part os (and_parts (rules.may_write root) (read_fits rules root part os) p.0).1 in
       order_typed (Holds kind) ms s (λ is s1. then_value (m s1) (λ v s2. Gives v (write_part (frame_by rules inputs) root part (map single is) v s2))) (ints_keep os ms all f.ints) typed
       (λ vs s1 n t1. then_typed (Holds (part_kind part os)) (Holds kind) (m s1) (λ v s2. Gives v (write_part (frame_by rules inputs) root part (map single vs) v s2)) (sound (part_kind part os) (is_kind_is (part_kind part os) o p.1) s1 t1)
-          (λ v s2 holds t2. (subst (λ k. Holds k v) t.1 holds, part_written rules inputs fit part f.kind f.led root (map single vs) v s2 f.is (subst (λ k. Holds k v) (sym (as_many part os ms vs all n)) holds) t2)))
+      (λ v s2 holds t2. (subst (λ k. Holds k v) t.1 holds, part_written rules inputs fit part f.kind f.led root (map single vs) v s2 f.is (subst (λ k. Holds k v) (sym (as_many part os ms vs all n)) holds) t2)))
 
   pub chosen_sound : (k : Kind) (oc oa ob : Option Kind) (c a b : Meaning) → Sound oc c → Sound oa a → Sound ob b → Sound (kind_step rules (e.Choose k oc oa ob)) (expr_step (frame_by rules inputs) calls (e.Choose k c a b))
   chosen_sound k oc oa ob c a b sc sa sb kind h s typed =
@@ -262,8 +284,8 @@ module _ (rules : Rules) (inputs : Inputs) (calls : Calls) (fit : IsTypedFrame r
         let p = and_parts (is_numeric oa) (is_numeric ob) t.0 in
         let number = number_found oa p.0 in
         subst (λ k. Ends (Holds k) (both a b s)) t.1 (
-            then_typed (Holds number.kind) (Holds (Value (only Int))) (a s) (λ v s1. if holds v then then_value (b s1) (λ w s2. Gives (truth_value (holds w)) s2) else Gives (truth_value false) s1) (sa number.kind number.is s typed)
-            (λ v s1 u t1. by (holds v) s1 (second p.1 s1 t1) t1))
+        then_typed (Holds number.kind) (Holds (Value (only Int))) (a s) (λ v s1. if holds v then then_value (b s1) (λ w s2. Gives (truth_value (holds w)) s2) else Gives (truth_value false) s1) (sa number.kind number.is s typed)
+        (λ v s1 u t1. by (holds v) s1 (second p.1 s1 t1) t1))
       where
         by : (z : Bool) (s1 : State) → Ends (Holds (Value (only Int))) (then_value (b s1) (λ w s2. Gives (truth_value (holds w)) s2)) → Typed s1
             → Ends (Holds (Value (only Int))) (if z then then_value (b s1) (λ w s2. Gives (truth_value (holds w)) s2) else Gives (truth_value false) s1)
@@ -276,8 +298,8 @@ module _ (rules : Rules) (inputs : Inputs) (calls : Calls) (fit : IsTypedFrame r
         let p = and_parts (is_numeric oa) (is_numeric ob) t.0 in
         let number = number_found oa p.0 in
         subst (λ k. Ends (Holds k) (either a b s)) t.1 (
-            then_typed (Holds number.kind) (Holds (Value (only Int))) (a s) (λ v s1. if holds v then Gives (truth_value true) s1 else then_value (b s1) (λ w s2. Gives (truth_value (holds w)) s2)) (sa number.kind number.is s typed)
-            (λ v s1 u t1. by (holds v) s1 (second p.1 s1 t1) t1))
+        then_typed (Holds number.kind) (Holds (Value (only Int))) (a s) (λ v s1. if holds v then Gives (truth_value true) s1 else then_value (b s1) (λ w s2. Gives (truth_value (holds w)) s2)) (sa number.kind number.is s typed)
+        (λ v s1 u t1. by (holds v) s1 (second p.1 s1 t1) t1))
       where
         by : (z : Bool) (s1 : State) → Ends (Holds (Value (only Int))) (then_value (b s1) (λ w s2. Gives (truth_value (holds w)) s2)) → Typed s1
             → Ends (Holds (Value (only Int))) (if z then Gives (truth_value true) s1 else then_value (b s1) (λ w s2. Gives (truth_value (holds w)) s2))
@@ -293,8 +315,33 @@ module _ (rules : Rules) (inputs : Inputs) (calls : Calls) (fit : IsTypedFrame r
       let led = ap (λ z. led_to rules.structures (Some z) part.fields) (some_same k f.kind f.is) ∙ f.led in
       then_typed (Holds k) (Holds kind) (m s) (λ vs s1. in_order ms s1 (λ is s2. Gives (selection part (field_leaves (frame_by rules inputs) k part vs) (map single is)) s2)) (sound k (is_kind_is k o p.0) s typed)
       (λ vs s1 holds t1. order_typed (Holds kind) ms s1 (λ is s2. Gives (selection part (field_leaves (frame_by rules inputs) k part vs) (map single is)) s2) (ints_keep os ms all f.ints) t1
-          (λ is s2 n t2. (
-            subst (λ z. Holds z (selection part (field_leaves (frame_by rules inputs) k part vs) (map single is))) (as_many part os ms is all n ∙ t.1)
+      (λ is s2 n t2. (
+        subst (λ z. Holds z (selection part (field_leaves (frame_by rules inputs) k part vs) (map single is))) (as_many part os ms is all n ∙ t.1)
             (selection_typed rules.structures part (field_leaves (frame_by rules inputs) k part vs) (map single is) (part_typed (leaves_of rules.structures k) (leaves_of rules.structures part.kind) vs (leaves_before rules.structures k part.fields) holds (lies_led rules.structures fit.structures k part.kind part.fields led))),
-            t2,
-          )))
+        t2,
+      )))
+
+  abbrev new : Part → List Meaning → OpName → Ty → List AnyValue → List AnyValue → List AnyValue
+  new part ms op ty old v = stored_as (part_kind part ms) (apply op ty (single old ∷ single v ∷ [])) ∷ []
+
+  stored_holds : (k : Kind) (to : Ty) (v : AnyValue) → k ≡ Value to → HasValues to → Holds k (stored_as k v ∷ [])
+  stored_holds k to v is has = subst (λ z. Holds z (stored_as z v ∷ [])) (sym is) (ap (λ x. x ∷ []) (applied_type Assign to (v ∷ []) has))
+
+  pub updated_sound : (op : OpName) (ty : Ty) (root : Root) (part : Part) (os : List (Option Kind)) (ms : List Meaning) (o : Option Kind) (m : Meaning) → Sounds os ms → Sound o m
+      → Sound (kind_step rules (e.Update op ty root part os o)) (expr_step (frame_by rules inputs) calls (e.Update op ty root part ms m))
+  updated_sound op ty root part os ms o m all sound kind h s typed =
+      let t = if_so (stored_fits rules root part os && updates_by op ty (part_kind part os) o) (part_kind part os) kind h in
+      let p = and_parts (stored_fits rules root part os) (updates_by op ty (part_kind part os) o) t.0 in
+      let f = fits (root_kind rules root) part os (and_parts (rules.may_write root) (read_fits rules root part os) p.0).1 in
+      let u = update_fits op ty (part_kind part os) o p.1 in
+      let same : part_kind part ms ≡ part_kind part os = ap (λ k. kind_at part.kind (k + component_count part.component)) (sounds_length os ms all) in
+      order_typed (Holds kind) ms s (λ is s1. then_value (read_part (frame_by rules inputs) root part (map single is) s1) (λ old s2. then_value (m s2) (λ v s3. Gives (new part ms op ty old v) (write_part (frame_by rules inputs) root part (map single is) (new part ms op ty old v) s3)))) (ints_keep os ms all f.ints) typed
+      (λ vs s1 n t1. then_typed (Holds (kind_at part.kind (length (map single vs) + component_count part.component))) (Holds kind) (read_part (frame_by rules inputs) root part (map single vs) s1)
+      (λ old s2. then_value (m s2) (λ v s3. Gives (new part ms op ty old v) (write_part (frame_by rules inputs) root part (map single vs) (new part ms op ty old v) s3)))
+      (part_read rules inputs fit part f.kind f.led root (map single vs) s1 f.is t1)
+      (λ old s2 h2 t2. then_typed (Holds (Value u.from)) (Holds kind) (m s2) (λ v s3. Gives (new part ms op ty old v) (write_part (frame_by rules inputs) root part (map single vs) (new part ms op ty old v) s3)) (sound (Value u.from) u.given s2 t2)
+      (λ v s3 h3 t3.
+      let holds = stored_holds (part_kind part ms) u.to (apply op ty (single old ∷ single v ∷ [])) (same ∙ u.stored) u.has in (
+        subst (λ k. Holds k (new part ms op ty old v)) (same ∙ t.1) holds,
+        part_written rules inputs fit part f.kind f.led root (map single vs) (new part ms op ty old v) s3 f.is (subst (λ k. Holds k (new part ms op ty old v)) (same ∙ sym (as_many part os ms vs all n)) holds) t3,
+      ))))

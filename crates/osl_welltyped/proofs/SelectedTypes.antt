@@ -48,9 +48,9 @@ selected_typed ty v (i ∷ is) h =
     (λ x. type_of x ≡ selected_type ty (suc (length is)))
     (λ array. selected_typed (element_type ty) (apply ARef (element_type ty) (v ∷ i ∷ [])) is (applied_type ARef (element_type ty) (v ∷ i ∷ []) (only_has ty.base)) ∙ sym (of_element ty (length is) array))
     (λ flat. cond_both (is_only Matrix ty) (matrix_element v i is) (apply CompRef (only Float) (v ∷ i ∷ []))
-        (λ x. type_of x ≡ selected_type ty (suc (length is)))
-        (λ m. entry_typed ty v i is flat m h)
-        (λ m. applied_type CompRef (only Float) (v ∷ i ∷ []) (only_has Float) ∙ sym (of_component ty (length is) flat m)))
+    (λ x. type_of x ≡ selected_type ty (suc (length is)))
+    (λ m. entry_typed ty v i is flat m h)
+    (λ m. applied_type CompRef (only Float) (v ∷ i ∷ []) (only_has Float) ∙ sym (of_component ty (length is) flat m)))
 
 -- ---- what is written
 
@@ -67,6 +67,6 @@ with_selected_typed ty v (i ∷ is) x has h t =
     (λ z. type_of z ≡ ty)
     (λ array. applied_type AAssign ty element has)
     (λ flat. cond_both (is_only Matrix ty) (with_matrix_element ty v i is x) (apply CompAssign ty (v ∷ i ∷ x ∷ []))
-        (λ z. type_of z ≡ ty)
-        (λ m. with_entry_typed ty v i is x has h)
-        (λ m. applied_type CompAssign ty (v ∷ i ∷ x ∷ []) has))
+    (λ z. type_of z ≡ ty)
+    (λ m. with_entry_typed ty v i is x has h)
+    (λ m. applied_type CompAssign ty (v ∷ i ∷ x ∷ []) has))
