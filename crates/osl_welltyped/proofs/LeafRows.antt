@@ -1,5 +1,5 @@
 -- Where the leaves of variables and of their fields lie.
-use Rattle.std.proofs.Common.{◌≡◌, ◌≢◌, ℕ, zero, suc, ◌+◌, ◌<◌, Bool, true, false, ◌&&◌, List, [], ◌∷◌, ◌++◌, length, take, Option, Some, None, refl, sym, ap, ◌∙◌, subst, arith}
+use Rattle.std.proofs.Common.{◌≡◌, ◌≢◌, ℕ, zero, suc, ◌+◌, ◌<◌, true, List, [], ◌∷◌, ◌++◌, length, take, Option, Some, None, refl, sym, ap, ◌∙◌, subst, arith}
 use Rattle.std.specs.Prelude.{slice_get, slice_index_or, ◌==◌, nat_lt}
 use Rattle.std.specs.List.{flat_map, list_all}
 use Rattle.std.proofs.lemmas.Bool.{false≢true, cond_both, and_parts, eqb-true, ltb-true, eq-eqb}
@@ -7,7 +7,7 @@ use Rattle.osl_value.specs.declared.types.Ty.{Ty}
 use Rattle.osl_overload.specs.declared.signature.Kind.{Kind}
 use Rattle.osl_overload.specs.declared.signature.Kind.TheVariants.{Value, Structure, Void}
 use Rattle.osl_typed.specs.declared.shader.TypedStructure.{TypedStructure}
-use Rattle.osl_typed.specs.Frames.{fields_of, fields_in, leaves_with, leaves_below, leaves_of, leaves_before, place_of, kind_in}
+use Rattle.osl_typed.specs.Frames.{fields_of, leaves_with, leaves_below, leaves_of, leaves_before, place_of, kind_in}
 use Rattle.osl_welltyped.specs.Kinded.{led_to}
 use Rattle.osl_welltyped.specs.Typed.{LiesIn}
 use Rattle.osl_welltyped.specs.WellTyped.{field_fits, structures_fit}

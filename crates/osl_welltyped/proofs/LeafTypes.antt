@@ -1,5 +1,5 @@
 -- Leaves that are read have their types, and states stay typed where leaves and global variables of their types are written.
-use Rattle.std.proofs.Common.{◌≡◌, ℕ, zero, suc, ◌+◌, Bool, true, false, List, [], ◌∷◌, length, map, take, drop, Some, refl, sym, ap, ◌∙◌, subst, arith}
+use Rattle.std.proofs.Common.{◌≡◌, ℕ, zero, suc, ◌+◌, Bool, true, false, List, [], ◌∷◌, length, map, take, drop, Some, refl, sym, ap, ◌∙◌, arith}
 use Rattle.std.specs.Prelude.{slice_get, if◌then◌else◌, ◌==◌}
 use Rattle.std.proofs.lemmas.Bool.{eqb-true}
 use Rattle.osl_value.specs.declared.types.Ty.{Ty}
@@ -7,8 +7,8 @@ use Rattle.osl_value.specs.AnyValue.{AnyValue, type_of}
 use Rattle.osl_layer.specs.Globals.{type_of_global}
 use Rattle.osl_layer.specs.declared.global.GlobalName.{GlobalName}
 use Rattle.osl_layer.specs.declared.global.GlobalName.TheVariants.{P, N, Ng, I, U, V, Ci}
-use Rattle.osl_typed.specs.State.{Environment, Globals, State, leaves_at, with_leaves, same_global, with_global, write_leaves, write_global}
-use Rattle.osl_welltyped.specs.Typed.{AreOfTypes, HaveTypes, AreGlobals, IsTypedState, LiesIn}
+use Rattle.osl_typed.specs.State.{Environment, Globals, leaves_at, with_leaves, same_global, with_global}
+use Rattle.osl_welltyped.specs.Typed.{AreOfTypes, HaveTypes, AreGlobals, LiesIn}
 use Rattle.osl_welltyped.proofs.Steps.{none_is_not, some_same}
 
 -- ---- reading

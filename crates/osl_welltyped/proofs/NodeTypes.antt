@@ -1,5 +1,5 @@
 -- A node's meaning keeps states typed and gives leaves of its kind, if the meanings of its parts do.
-use Rattle.std.proofs.Common.{◌≡◌, ℕ, zero, suc, ◌+◌, Bool, true, false, not, ◌&&◌, ◌||◌, List, [], ◌∷◌, length, map, Option, Some, None, refl, sym, ap, ◌∙◌, subst, arith}
+use Rattle.std.proofs.Common.{◌≡◌, ℕ, suc, ◌+◌, Bool, true, false, not, ◌&&◌, ◌||◌, List, [], ◌∷◌, length, map, Option, Some, None, refl, sym, ap, ◌∙◌, subst}
 use Rattle.std.specs.Prelude.{if◌then◌else◌, ◌==◌, ℤ, is_some}
 use Rattle.std.specs.List.{list_all}
 use Rattle.std.proofs.lemmas.Bool.{false≢true, and_parts, eqb-true, cond_both}
@@ -7,7 +7,7 @@ use Rattle.osl_value.specs.declared.op_name.OpName.{OpName}
 use Rattle.osl_value.specs.declared.op_name.OpName.TheVariants.{Assign}
 use Rattle.osl_value.specs.declared.types.Base.TheVariants.{Int, Float, Str, Closure}
 use Rattle.osl_value.specs.declared.types.Ty.{Ty}
-use Rattle.osl_value.specs.AnyValue.{AnyValue, Parts, type_of}
+use Rattle.osl_value.specs.AnyValue.{AnyValue, Parts, type_of, is_number}
 use Rattle.osl_value.specs.Apply.{apply}
 use Rattle.osl_value.specs.Laws.{HasValues}
 use Rattle.osl_value.specs.Types.{only, is_only, same_base, same_type}
@@ -18,18 +18,20 @@ use Rattle.osl_overload.specs.Cost.{promotion, promotion_of}
 use Rattle.osl_overload.specs.declared.signature.Kind.{Kind}
 use Rattle.osl_overload.specs.declared.signature.Kind.TheVariants.{Value, Structure, Void}
 use Rattle.osl_typed.specs.declared.expr.Argument.TheOpen as e
+use Rattle.osl_typed.specs.declared.expr.Increment.{Increment}
+use Rattle.osl_typed.specs.declared.expr.Increment.TheVariants.{PreIncrement, PreDecrement, PostIncrement, PostDecrement}
 use Rattle.osl_typed.specs.declared.expr.Part.{Part}
 use Rattle.osl_typed.specs.declared.expr.Root.{Root}
-use Rattle.osl_typed.specs.Expressions.{Meaning, Calls, holds, promoted, truth_value, stored_as, both, either, expr_step, read_part}
+use Rattle.osl_typed.specs.Expressions.{Meaning, Calls, holds, promoted, truth_value, stored_as, both, either, expr_step, whole, step_op, one_of, stepped, step_gives, read_part}
 use Rattle.osl_typed.specs.Frames.{leaves_of, leaves_before}
 use Rattle.osl_typed.specs.Parts.{single, selection, field_leaves, write_part}
-use Rattle.osl_typed.specs.Selections.{part_kind, kind_at, component_count}
+use Rattle.osl_typed.specs.Selections.{types_on_the_way, part_kind, kind_at, component_count}
 use Rattle.osl_typed.specs.State.{State, ExpressionEnd, Gives, Exits, Spent, then_value, in_order}
-use Rattle.osl_welltyped.specs.Kinded.{Rules, is_type, is_kind, is_int, is_numeric, only_if, led_to, root_kind, kind_selects, part_fits, read_fits, stored_fits, plain_types, takes, promotes, is_stored_as, updates_by, kind_step}
+use Rattle.osl_welltyped.specs.Kinded.{Rules, is_type, is_kind, is_int, is_numeric, only_if, led_to, root_kind, part_fits, read_fits, stored_fits, plain_types, takes, promotes, is_stored_as, updates_by, steps, kind_step}
 use Rattle.osl_welltyped.specs.Typed.{AreOfTypes, IsTypedState, EndsTyped, frame_by, types_by, IsTypedFrame}
 use Rattle.osl_welltyped.proofs.LeafRows.{lies_led}
 use Rattle.osl_welltyped.proofs.LeafTypes.{part_typed}
-use Rattle.osl_welltyped.proofs.PartTypes.{selection_typed, part_read, part_written}
+use Rattle.osl_welltyped.proofs.PartTypes.{single_type, selection_typed, part_read, part_written}
 use Rattle.osl_welltyped.proofs.Steps.{none_is_not, some_same, is_kind_is}
 
 -- ---- tests that hold
@@ -104,6 +106,19 @@ update_fits op ty (Value to) (Some (Value from)) h =
     by : (b : Bool) → same_type ty to ≡ b → HasValues ty → (b || is_some (promotion_of (Value ty) (Value to))) ≡ true → HasValues to
     by true is has g = subst HasValues (same_type-true ty to is) has
     by false is has g = promotion_has ty to g
+
+number_has : (ty : Ty) → is_number ty ≡ true → HasValues ty
+number_has ty h = by (is_only Int ty) refl h
+  where
+    by : (b : Bool) → is_only Int ty ≡ b → (b || is_only Float ty) ≡ true → HasValues ty
+    by true is g = λ base. ap (λ (t : Ty). t.len) (same_type-true ty (only Int) is)
+    by false is g = λ base. ap (λ (t : Ty). t.len) (same_type-true ty (only Float) g)
+
+step_fits : (ty : Ty) (o : Option Kind) → steps ty o ≡ true → (o ≡ Some (Value ty)) × HasValues ty
+step_fits ty None h = absurd (false≢true h)
+step_fits ty (Some (Structure m)) h = absurd (false≢true h)
+step_fits ty (Some Void) h = absurd (false≢true h)
+step_fits ty (Some (Value from)) h = let p = and_parts (same_type from ty) (is_number ty) h in (ap (λ z. Some (Value z)) (same_type-true from ty p.0), number_has ty p.1)
 
 module _ (rules : Rules) (inputs : Inputs) (calls : Calls) (fit : IsTypedFrame rules inputs) where
   abbrev Typed : State → Type 0
@@ -345,3 +360,23 @@ module _ (rules : Rules) (inputs : Inputs) (calls : Calls) (fit : IsTypedFrame r
         subst (λ k. Holds k (new part ms op ty old v)) (same ∙ t.1) holds,
         part_written rules inputs fit part f.kind f.led root (map single vs) (new part ms op ty old v) s3 f.is (subst (λ k. Holds k (new part ms op ty old v)) (same ∙ sym (as_many part os ms vs all n)) holds) t3,
       ))))
+
+  pub stepped_sound : (step : Increment) (ty : Ty) (root : Root) → Sound (kind_step rules (e.Step step ty root)) (expr_step (frame_by rules inputs) calls (e.Step step ty root))
+  unfolding types_on_the_way
+  stepped_sound step ty root kind h s typed =
+      let t = if_so (rules.may_write root && steps ty (root_kind rules root)) (Value ty) kind h in
+      let f = step_fits ty (root_kind rules root) (and_parts (rules.may_write root) (steps ty (root_kind rules root)) t.0).1 in
+      then_typed (Holds (Value ty)) (Holds kind) (read_part (frame_by rules inputs) root (whole ty) [] s)
+      (λ old s1. Gives (step_gives step (single old) (stepped step ty (single old)) ∷ []) (write_part (frame_by rules inputs) root (whole ty) [] (stepped step ty (single old) ∷ []) s1))
+      (part_read rules inputs fit (whole ty) (Value ty) refl root [] s f.0 typed)
+      (λ old s1 h1 t1.
+      let new = applied_type (step_op step) ty (single old ∷ one_of ty ∷ []) f.1 in (
+        subst (λ k. Holds k (step_gives step (single old) (stepped step ty (single old)) ∷ [])) t.1 (ap (λ x. x ∷ []) (by step (single old) (stepped step ty (single old)) (single_type ty old h1) new)),
+        part_written rules inputs fit (whole ty) (Value ty) refl root [] (stepped step ty (single old) ∷ []) s1 f.0 (ap (λ x. x ∷ []) new) t1,
+      ))
+    where
+      by : (step : Increment) (old new : AnyValue) → type_of old ≡ ty → type_of new ≡ ty → type_of (step_gives step old new) ≡ ty
+      by PreIncrement old new a b = b
+      by PreDecrement old new a b = b
+      by PostIncrement old new a b = a
+      by PostDecrement old new a b = a

@@ -1,5 +1,5 @@
 -- Parts of variables that are read have the leaves of their kind, and states stay typed where such leaves are written.
-use Rattle.std.proofs.Common.{◌≡◌, ℕ, zero, suc, ◌+◌, Bool, true, false, List, [], ◌∷◌, ◌++◌, length, map, Option, Some, None, refl, sym, ap, ◌∙◌, subst, arith}
+use Rattle.std.proofs.Common.{◌≡◌, ℕ, ◌+◌, Bool, true, false, List, [], ◌∷◌, ◌++◌, length, map, Option, Some, None, refl, sym, ap, ◌∙◌, subst, arith}
 use Rattle.std.specs.Prelude.{slice_get, if◌then◌else◌, nat_lt}
 use Rattle.osl_value.specs.declared.types.Ty.{Ty}
 use Rattle.osl_value.specs.AnyValue.{AnyValue, type_of}
@@ -16,7 +16,7 @@ use Rattle.osl_typed.specs.declared.expr.Root.TheVariants as root
 use Rattle.osl_typed.specs.declared.shader.TypedStructure.{TypedStructure}
 use Rattle.osl_typed.specs.Expressions.{read_part}
 use Rattle.osl_typed.specs.Frames.{leaves_of}
-use Rattle.osl_typed.specs.Parts.{single, named_component, all_indices, selected_of, selection, with_selected_of, with_selection, read_input, read_leaves, write_part, first_leaf, part_leaves}
+use Rattle.osl_typed.specs.Parts.{single, named_component, all_indices, selected_of, selection, with_selected_of, with_selection, read_input, read_leaves, write_part, first_leaf}
 use Rattle.osl_typed.specs.Selections.{kind_at, component_count}
 use Rattle.osl_typed.specs.State.{State, ExpressionEnd, Gives, Exits, Spent, leaves_at, then_value}
 use Rattle.osl_welltyped.specs.Kinded.{Rules, led_to, root_kind}

@@ -1,7 +1,7 @@
 -- The types of what indices select, and of values with another value there.
-use Rattle.std.proofs.Common.{◌≡◌, ℕ, zero, suc, Bool, true, false, cond, List, [], ◌∷◌, length, refl, sym, ap, ◌∙◌, subst}
-use Rattle.std.proofs.lemmas.Bool.{cond_both, cond-true, cond-false}
-use Rattle.osl_value.specs.declared.op_name.OpName.TheVariants.{Assign, ARef, AAssign, CompRef, CompAssign, MxCompRef, MxCompAssign}
+use Rattle.std.proofs.Common.{◌≡◌, ℕ, suc, true, false, cond, List, [], ◌∷◌, length, refl, sym, ◌∙◌}
+use Rattle.std.proofs.lemmas.Bool.{cond_both}
+use Rattle.osl_value.specs.declared.op_name.OpName.TheVariants.{ARef, AAssign, CompRef, CompAssign, MxCompRef, MxCompAssign}
 use Rattle.osl_value.specs.declared.types.Base.{Base}
 use Rattle.osl_value.specs.declared.types.Base.TheVariants.{Float, Matrix}
 use Rattle.osl_value.specs.declared.types.Ty.{Ty}
