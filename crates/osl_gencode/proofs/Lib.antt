@@ -45,3 +45,6 @@ pub mod BraceLists
 pub mod ArrayElements
 pub mod ArrayLists
 pub mod LoopsAround
+pub mod SizeSums
+pub mod FairLaws
+pub mod SizeNodes

@@ -6,3 +6,4 @@ pub mod Codes
 pub mod PartCodes
 pub mod CallCodes
 pub mod StandsFor
+pub mod Sizes
