@@ -52,7 +52,7 @@ bit_minus-bit a b j h k =
     let e : bit_at (bit_not w64 b) j ≡ 1 - bit_at b j = bit_at_not w64 b j h k in
     rw (bit_at_and, e) (min-bits (bit_at a j) (bit_at b j) (bit_at-lt a j) (bit_at-lt b j))
 
-bit_of_past : (words : List ℕ) (i : ℕ) → length words ≤ i / 64 → bit_of words i ≡ false
+pub bit_of_past : (words : List ℕ) (i : ℕ) → length words ≤ i / 64 → bit_of words i ≡ false
 bit_of_past words i h = rw (get_or_past words (i / 64) 0 h, bit_at-zero (i % 64)) refl
 
 -- ---- one bit set

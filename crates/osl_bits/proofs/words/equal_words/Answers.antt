@@ -1,11 +1,13 @@
 use Rattle.std.proofs.Common.{arith}
-use Rattle.std.proofs.lemmas.Bool.{false≢true}
-use Rattle.osl_bits.proofs.Rows.{words_differ}
+use Rattle.std.specs.Prelude.{length}
+use Rattle.osl_bits.proofs.Lanes.{SameWords-next, same_words}
 use Rattle.osl_bits.proofs.words.equal_words.Goals as goal
 
-pub returns-then-word-others : goal.returns-then-word-others
-returns-then-word-others c =
-    let k = c.loop-k.k in (
-      λ e. absurd (false≢true e),
-      λ same. absurd (words_differ c.args.words.now c.args.others.now k (omega (arith, c.type_inv.words k)) (omega (arith, c.type_inv.others k)) c.if-word-others.true same),
+pub returns : goal.returns
+returns c =
+    let words = c.args.words.now in
+    let others = c.args.others.now in
+    let rows = same_words words others c.requires (λ k. omega (arith, c.type_inv.words k)) (λ k. omega (arith, c.type_inv.others k)) in (
+      λ t. rows.0 (SameWords-next words others 0 c.same_vectors-same.result (length words) c.same_vectors-same.ensures.same (c.equal_rest.ensures.0 t)),
+      λ bits. c.equal_rest.ensures.1 (λ k a b. rows.1 bits k (omega arith) b),
     )
