@@ -1,0 +1,5 @@
+pub mod Words
+mod Ints
+mod Floats
+mod Geometry
+mod Texts
