@@ -28,8 +28,3 @@ pub mod Constants
 pub mod NamesKnown
 pub mod TypingsFit
 pub mod Examples
-pub mod SelectedTypes
-pub mod LeafRows
-pub mod LeafTypes
-pub mod PartTypes
-pub mod NodeTypes

@@ -4,4 +4,3 @@ pub mod StatementsFit
 pub mod Measures
 pub mod WellTyped
 pub mod Agreement
-pub mod Typed

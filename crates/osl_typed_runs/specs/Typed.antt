@@ -1,29 +1,40 @@
--- States in which each leaf and each global variable holds a value of its type, and expressions that keep this.
-use Rattle.std.specs.Prelude.{ℕ, ◌≡◌, ◌+◌, true, List, map, Some, slice_get}
-use Rattle.std.specs.List.{flat_map}
+-- States in which each leaf and each global variable holds a value of its type, in range, and expressions, statements and calls that keep this.
+use Rattle.std.specs.Prelude.{ℕ, ◌≡◌, ◌+◌, List, map, Some, slice_get, IsTrue}
+use Rattle.std.specs.List.{All, flat_map}
 use Rattle.osl_value.specs.declared.types.Ty.{Ty}
 use Rattle.osl_value.specs.AnyValue.{AnyValue, type_of}
+use Rattle.osl_value.specs.WellFormed.{IsValue, IsOfType}
 use Rattle.osl_layer.specs.Globals.{type_of_global}
 use Rattle.osl_layer.specs.declared.global.GlobalName.{GlobalName}
-use Rattle.osl_value.specs.Laws.{HasValues}
 use Rattle.osl_layer.specs.Layer.{From, Inputs}
+use Rattle.osl_overload.specs.declared.signature.Kind.{Kind}
 use Rattle.osl_overload.specs.declared.signature.Kind.TheVariants.{Value}
+use Rattle.osl_typed.specs.declared.shader.TypedStructure.{TypedStructure}
 use Rattle.osl_typed.specs.Frames.{leaves_of}
 use Rattle.osl_typed.specs.Parts.{Frame}
 use Rattle.osl_typed.specs.State.{Environment, Globals, State, ExpressionEnd, Gives, Exits, Spent}
-use Rattle.osl_welltyped.specs.Kinded.{Rules}
+use Rattle.osl_welltyped.specs.Kinded.{Rules, is_type}
 use Rattle.osl_welltyped.specs.WellTyped.{structures_fit}
 
+-- ---- values
+
 -- values of these types, one of each
-abbrev pub AreOfTypes : List Ty → List AnyValue → Type 0
-AreOfTypes types vs = map type_of vs ≡ types
+pub record AreOfTypes (row : List Ty) (vs : List AnyValue) : Type 0 where
+  pub values : All IsValue vs
+  pub types : map type_of vs ≡ row
+
+-- the leaves of a value of a kind
+abbrev pub IsOfKind : List TypedStructure → Kind → List AnyValue → Type 0
+IsOfKind structures kind vs = AreOfTypes (leaves_of structures kind) vs
+
+-- ---- states
 
 -- leaf k holds a value of type k
 pub record HaveTypes (types : List Ty) (vars : Environment) : Type 0 where
-  pub each : (k : ℕ) (ty : Ty) → slice_get types k ≡ Some ty → type_of (vars k) ≡ ty
+  pub each : (k : ℕ) (ty : Ty) → slice_get types k ≡ Some ty → IsOfType ty (vars k)
 
 pub record AreGlobals (globals : Globals) : Type 0 where
-  pub each : (g : GlobalName) → type_of (globals g) ≡ type_of_global g
+  pub each : (g : GlobalName) → IsOfType (type_of_global g) (globals g)
 
 pub record IsTypedState (types : List Ty) (s : State) : Type 0 where
   pub vars : HaveTypes types s.vars
@@ -49,8 +60,9 @@ frame_by rules inputs = record { structures = rules.structures; kinds = rules.ki
 abbrev pub types_by : Rules → List Ty
 types_by rules = flat_map (leaves_of rules.structures) rules.kinds
 
--- structures are in order, each leaf has a type of which there are values, and what is connected has the type of its variable
+-- structures are in order, each leaf has a type of the language, and what is connected is a value of the type of its variable
 pub record IsTypedFrame (rules : Rules) (inputs : Inputs) : Type 0 where
-  pub structures : structures_fit 0 rules.structures ≡ true
-  pub values : (k : ℕ) (ty : Ty) → slice_get (types_by rules) k ≡ Some ty → HasValues ty
+  pub structures : IsTrue (structures_fit 0 rules.structures)
+  pub types : (k : ℕ) (ty : Ty) → slice_get (types_by rules) k ≡ Some ty → IsTrue (is_type ty)
   pub connected : (k : ℕ) (v : AnyValue) → inputs k ≡ From (Some v) → slice_get rules.kinds k ≡ Some (Value (type_of v))
+  pub given : (k : ℕ) (v : AnyValue) → inputs k ≡ From (Some v) → IsValue v

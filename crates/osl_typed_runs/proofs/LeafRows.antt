@@ -9,7 +9,7 @@ use Rattle.osl_overload.specs.declared.signature.Kind.TheVariants.{Value, Struct
 use Rattle.osl_typed.specs.declared.shader.TypedStructure.{TypedStructure}
 use Rattle.osl_typed.specs.Frames.{fields_of, leaves_with, leaves_below, leaves_of, leaves_before, place_of, kind_in}
 use Rattle.osl_welltyped.specs.Kinded.{led_to}
-use Rattle.osl_welltyped.specs.Typed.{LiesIn}
+use Rattle.osl_typed_runs.specs.Typed.{LiesIn}
 use Rattle.osl_welltyped.specs.WellTyped.{field_fits, structures_fit}
 use Rattle.osl_welltyped.proofs.Steps.{none_is_not, some_same}
 
