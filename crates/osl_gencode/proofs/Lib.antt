@@ -48,3 +48,6 @@ pub mod LoopsAround
 pub mod SizeSums
 pub mod FairLaws
 pub mod SizeNodes
+pub mod SizeLists
+pub mod SizeParts
+pub mod SizeStores
