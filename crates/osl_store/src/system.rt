@@ -1,11 +1,11 @@
 //! The system's files and standard output, of which contracts are told no content.
 
-ghost use Rattle.std.specs.Prelude.{None, false, ◌≡◌, OnOk, IsErrOf, Some};
+ghost use Rattle.std.specs.Prelude.{None, false, ◌≡◌, ◌≢◌, OnOk, IsErrOf, Some};
 ghost use Rattle.std.specs.Io.{StartsWith};
 ghost use Rattle.std.specs.Option.{option_map};
 ghost use Rattle.osl_store.specs.Counts.{no_counts};
 ghost use Rattle.osl_store.specs.Files.{Takes, IsLonger};
-ghost use Rattle.osl_store.specs.SystemErrors.{not_opened, not_read, not_made};
+ghost use Rattle.osl_store.specs.SystemErrors.{not_opened, not_read, not_taken, not_made};
 
 use crate::{PutError, ReadError, Sink, Store, WriteError};
 use std::fs;
@@ -52,11 +52,12 @@ impl<'a, R: Files> FileStore<'a, R> {
 impl<R: Files> Store for FileStore<'_, R> {
     ghost seen = { λ counts. record { files = λ name. None; counts = counts; faultless = false } };
 
-    /// `Absent` where there is no file of this name. A file that is there and may not be opened, and a folder, are `Failed`.
+    /// `Absent` where there is no file of this name, a name under a file and one that is too long for the system among them.
+    /// A file that is there and may not be opened, and a folder, are `Failed`.
     fn read(&mut self, name: &str, limit: u32, into: &mut Vec<u8>) -> Result<(), ReadError> {
         let before = into.len();
         let result = match fs::open(self.rt, name) {
-            Ok(mut file) => take_all(&mut file, limit, into),
+            Ok(mut file) => take_all(&mut file, limit, into).map_err(not_taken),
             Err(error) => Err(not_opened(error.kind())),
         };
         match result {
@@ -83,18 +84,26 @@ impl<R: Files> Store for FileStore<'_, R> {
     }
 }
 
-/// Appends what is left of a file. After an error some of it may have been appended. It is `TooLarge` where more than
-/// `limit` bytes came, `Memory` where an allocation failed, and `Failed` at every other error of the reader.
-fn take_all<R: Read + Drop>(file: R, limit: u32, into: &mut Vec<u8>) -> Result<(), ReadError>
+/// Why what is left of a file was not appended.
+#[derive(Clone, Copy)]
+enum TakeError {
+    /// More bytes came than the limit.
+    TooLarge,
+    /// The reader gave an error of this kind.
+    Unread(ErrorKind),
+}
+
+/// Appends what is left of a file. After an error some of it may have been appended. An interrupted read is made again.
+fn take_all<R: Read + Drop>(file: R, limit: u32, into: &mut Vec<u8>) -> Result<(), TakeError>
     ensures ok { OnOk result (Takes (option_map Some (R.remaining file)) limit into.old.items into.new.items) }
-    ensures large { IsErrOf result ReadError.TooLarge → IsLonger (option_map Some (R.remaining file)) limit }
-    ensures there { IsErrOf result ReadError.Absent → ⊥ }
+    ensures large { IsErrOf result TakeError.TooLarge → IsLonger (option_map Some (R.remaining file)) limit }
+    ensures retried { IsErrOf result (TakeError.Unread ErrorKind.Interrupted) → ⊥ }
     ensures appends { StartsWith into.new.items into.old.items }
 {
     match file.take(u64::from(limit) + 1).read_to_end(into) {
-        Ok(count) if count > limit as usize => Err(ReadError::TooLarge),
+        Ok(count) if count > limit as usize => Err(TakeError::TooLarge),
         Ok(_) => Ok(()),
-        Err(error) => Err(not_read(error.kind())),
+        Err(error) => Err(TakeError::Unread(error.kind())),
     }
 }
 
@@ -103,7 +112,9 @@ fn not_opened(error: ErrorKind) -> ReadError
     ensures { result ≡ not_opened error }
 {
     match error {
-        ErrorKind::NotFound => ReadError::Absent,
+        ErrorKind::NotFound | ErrorKind::NotADirectory | ErrorKind::InvalidFilename => {
+            ReadError::Absent
+        }
         ErrorKind::OutOfMemory => ReadError::Memory,
         _ => ReadError::Failed,
     }
@@ -116,6 +127,16 @@ fn not_read(error: ErrorKind) -> ReadError
     match error {
         ErrorKind::OutOfMemory => ReadError::Memory,
         _ => ReadError::Failed,
+    }
+}
+
+/// Why what is left of a file was not taken.
+fn not_taken(error: TakeError) -> ReadError
+    ensures { result ≡ not_taken error }
+{
+    match error {
+        TakeError::TooLarge => ReadError::TooLarge,
+        TakeError::Unread(error) => not_read(error),
     }
 }
 
