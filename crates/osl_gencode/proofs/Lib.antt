@@ -51,3 +51,6 @@ pub mod SizeNodes
 pub mod SizeLists
 pub mod SizeParts
 pub mod SizeStores
+pub mod SizeStatements
+pub mod SizeRanges
+pub mod SizeCalls

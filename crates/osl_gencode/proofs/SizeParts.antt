@@ -91,3 +91,10 @@ module _ (scale : Scale) (root : Root) (part : Part) (leads : LeadsTo scale.stru
       let l : length (selected_types part.kind (depth_of part (map (weight scale) indices))) ≡ length types = ap length is in
       let k : sum_by slot_count (selected_types part.kind (depth_of part (map (weight scale) indices))) ≡ sum_by slot_count types = ap (sum_by slot_count) is in
       selected_within indices ops0 opsI ops1 syms0 symsI syms1 n m q _ _ _ _ _ _ _ (weight-Out scale root part indices) (omega (arith, l, some)) (omega (arith, l, some)) (omega (arith, l, k, some)) a b
+
+  -- an output that is whole is read where it is, and leaves room for a move of each leaf
+  pub whole_output_within : (ops : List Op) (syms : List Symbol) → Within ops ops syms syms (4 * leaf_count scale.structures part.kind) 0 0 (weight_passed scale (arguments.Out root part []))
+  whole_output_within ops syms =
+      let size = variable_size scale.structures scale.kinds root part [] leads in
+      let f = size_fair scale.structures part.kind in
+      within_as ops ops syms syms _ _ _ _ _ (weight-Out scale root part []) (record { ops = omega (arith, size, f); syms = omega arith; slots = omega arith })
