@@ -1,0 +1,2 @@
+//! Rows of the demonstration's files, computed by their definition.
+#![tactic(auto)]
