@@ -40,29 +40,25 @@ first_layer : shader_line 0 ≡ codes "shader gen g" ++ int_text (pos 0) ++ code
 unfolding next drawn line_end fraction shader_line next_layer connect_line top_lines point_line edit_line
 first_layer = refl
 
+layer_0 : next_layer 0 6 ≡ shader_line 7 ++ []
+unfolding next_layer drawn next
+layer_0 = refl
+
 layer_1 : next_layer 1 7 ≡ shader_line 8 ++ connect_line 7 8
 unfolding next_layer drawn next
 layer_1 = refl
-
-layer_2 : next_layer 2 8 ≡ shader_line 9 ++ connect_line 8 9
-unfolding next_layer drawn next
-layer_2 = refl
-
-layer_3 : next_layer 3 9 ≡ shader_line 10 ++ connect_line 9 10
-unfolding next_layer drawn next
-layer_3 = refl
-
-layer_4 : next_layer 4 10 ≡ shader_line 11 ++ connect_line 10 11
-unfolding next_layer drawn next
-layer_4 = refl
 
 layer_5 : next_layer 5 11 ≡ shader_line 12 ++ connect_line 11 12
 unfolding next_layer drawn next
 layer_5 = refl
 
-layer_6 : next_layer 6 12 ≡ shader_line 13 ++ connect_line 12 13
+layer_9 : next_layer 9 15 ≡ shader_line 16 ++ []
 unfolding next_layer drawn next
-layer_6 = refl
+layer_9 = refl
+
+layer_11 : next_layer 11 17 ≡ shader_line 18 ++ []
+unfolding next_layer drawn next
+layer_11 = refl
 
 connected : connect_line 6 7 ≡ codes "connect g" ++ int_text (pos 6) ++ codes ".r g" ++ int_text (pos 7) ++ codes ".a ;" ++ 10
     ∷ []
