@@ -1,9 +1,9 @@
 use Rattle.std.proofs.Common.{sym, ◌∙◌, lit<}
 use Rattle.std.proofs.lemmas.Bool.{false≢true}
-use Rattle.osl_part_rows.proofs.execution.on_ints.Goals as goal
+use Rattle.osl_part_tests.proofs.execution.on_normal.Goals as goal
 
 pub execute-requires-clause-places : goal.execute-requires-clause-places
-execute-requires-clause-places c = (lit< tt, (lit< tt, tt))
+execute-requires-clause-places c = (lit< tt, tt)
 
 pub execute-requires-clause-takes : goal.execute-requires-clause-takes
 execute-requires-clause-takes c = c.requires.takes

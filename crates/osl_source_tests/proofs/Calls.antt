@@ -19,7 +19,7 @@ use Rattle.osl_typed.specs.SourceRun.{outputs_from, source_run}
 use Rattle.osl_typed.specs.State.{in_order, leaves_at, with_leaves}
 use Rattle.osl_typed.specs.Statements.{finals_from, with_elements}
 use Rattle.osl_typed.proofs.Written as w
-use Rattle.osl_rows.proofs.Words.{int, float, color, point, row, floats, here, defaults, gives, gives_ints, spent, literal, own, var, global, with_two, minus, new_step, lend, put_as, put, add, begin_zero, go_back, count_to, by_value, by_output, function, output, int_outputs, shader, more}
+use Rattle.osl_source_tests.proofs.Words.{int, float, color, point, row, floats, here, defaults, gives, gives_ints, spent, literal, own, var, global, with_two, minus, new_step, lend, put_as, put, add, begin_zero, go_back, count_to, by_value, by_output, function, output, int_outputs, shader, more}
 
 -- ---- int root(int n) { for (int i = 0; i < 3; ++i) if (i * i >= n) return i; return -1; }
 -- shader roots(output int r = 0) { r = root(4) + 10 * root(9); }: 2 - 10, in 3 + 3 turns

@@ -1,6 +1,6 @@
 use Rattle.std.proofs.Common.{sym, ◌∙◌, lit<}
 use Rattle.std.proofs.lemmas.Bool.{false≢true}
-use Rattle.osl_part_rows.proofs.execution.on_floats.Goals as goal
+use Rattle.osl_part_tests.proofs.execution.on_vectors.Goals as goal
 
 pub execute-requires-clause-places : goal.execute-requires-clause-places
 execute-requires-clause-places c = (lit< tt, (lit< tt, tt))

@@ -1,4 +1,4 @@
-use Rattle.oso_rows.proofs.runs.ended.Given as goal
+use Rattle.oso_tests.proofs.runs.ended.Given as goal
 
 abbrev pub ghosts-counted-L-Ledger : goal.ghosts-counted-L-Ledger
 ghosts-counted-L-Ledger a = record { name = a.layers.name; parts = a.layers.parts }

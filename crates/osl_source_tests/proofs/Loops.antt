@@ -16,7 +16,7 @@ use Rattle.osl_typed.specs.SourceRun.{outputs_from, source_run}
 use Rattle.osl_typed.specs.State.{in_order, leaves_at, with_leaves}
 use Rattle.osl_typed.specs.Statements.{finals_from, with_elements}
 use Rattle.osl_typed.proofs.Written as w
-use Rattle.osl_rows.proofs.Words.{int, here, defaults, gives_ints, spent, literal, own, var, with_two, minus, set_to, add_to, new_step, put, add, for_ever, for_from, count_to, by_value, function, int_outputs, shader}
+use Rattle.osl_source_tests.proofs.Words.{int, here, defaults, gives_ints, spent, literal, own, var, with_two, minus, set_to, add_to, new_step, put, add, for_ever, for_from, count_to, by_value, function, int_outputs, shader}
 
 -- ---- shader nested(output int r = 0) { for (int i = 0; i < 2; ++i) for (int j = 0; j < 2; ++j) r += 1; }: two turns of the outer loop and four of the inner one
 

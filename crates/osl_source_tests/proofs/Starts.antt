@@ -24,7 +24,7 @@ use Rattle.osl_typed.specs.SourceRun.{outputs_from, source_run}
 use Rattle.osl_typed.specs.State.{in_order, leaves_at, with_leaves}
 use Rattle.osl_typed.specs.Statements.{finals_from, with_elements}
 use Rattle.osl_typed.proofs.Written as w
-use Rattle.osl_rows.proofs.Words.{int, float, color, point, vector, normal, matrix, string, closure, row, units, an_int, floats, here, defaults, gives, gives_ints, spent, literal, component, text, own, read, var, global, element, with_two, new_step, old_step, lend, put_as, put, add, from_value, declare, begin_zero, count_to, by_value, by_output, function, input, output, int_outputs, shader}
+use Rattle.osl_source_tests.proofs.Words.{int, float, color, point, vector, normal, matrix, string, closure, row, units, an_int, floats, here, defaults, gives, gives_ints, spent, literal, component, text, own, read, var, global, element, with_two, new_step, old_step, lend, put_as, put, add, from_value, declare, begin_zero, count_to, by_value, by_output, function, input, output, int_outputs, shader}
 
 -- ---- words
 

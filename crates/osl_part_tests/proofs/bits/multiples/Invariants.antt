@@ -1,6 +1,6 @@
 use Rattle.std.proofs.Common.{◌≡◌}
 use Rattle.std.specs.Prelude.{length}
-use Rattle.osl_part_rows.proofs.bits.multiples.Given as goal
+use Rattle.osl_part_tests.proofs.bits.multiples.Given as goal
 
 abbrev pub invariant-loop-i : goal.invariant-loop-i
 invariant-loop-i l = length l.row ≡ l.len

@@ -17,7 +17,7 @@ use Rattle.osl_typed.specs.SourceRun.{outputs_from, source_run}
 use Rattle.osl_typed.specs.State.{in_order, leaves_at, with_leaves}
 use Rattle.osl_typed.specs.Statements.{finals_from, with_elements}
 use Rattle.osl_typed.proofs.Written as w
-use Rattle.osl_rows.proofs.Words.{int, float, color, point, vector, normal, matrix, row, units, an_int, floats, here, defaults, gives, gives_ints, literal, component, own, var, global, element, with_two, minus, set_to, add_to, set_at, new_step, old_step, lend, lend_at, put_as, put, add, begin_zero, by_value, by_output, function, output, int_outputs, shader, more}
+use Rattle.osl_source_tests.proofs.Words.{int, float, color, point, vector, normal, matrix, row, units, an_int, floats, here, defaults, gives, gives_ints, literal, component, own, var, global, element, with_two, minus, set_to, add_to, set_at, new_step, old_step, lend, lend_at, put_as, put, add, begin_zero, by_value, by_output, function, output, int_outputs, shader, more}
 
 -- ---- shader targets(output int a = 0, output int b = 0) { int t[2]; int i = 0; t[i] = ++i; a = t[0]; b = t[1]; }: the target's index comes before the right side
 
