@@ -5,3 +5,4 @@ pub mod LeafTypes
 pub mod PartTypes
 pub mod KindTests
 pub mod NodeTypes
+pub mod CallTypes

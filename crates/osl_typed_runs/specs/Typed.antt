@@ -1,5 +1,5 @@
 -- States in which each leaf and each global variable holds a value of its type, in range, and expressions, statements and calls that keep this.
-use Rattle.std.specs.Prelude.{ℕ, ◌≡◌, ◌+◌, List, map, Some, slice_get, IsTrue}
+use Rattle.std.specs.Prelude.{ℕ, ◌≡◌, ◌+◌, List, map, Some, slice_get, IsTrue, [], ◌∷◌}
 use Rattle.std.specs.List.{All, flat_map}
 use Rattle.osl_value.specs.declared.types.Ty.{Ty}
 use Rattle.osl_value.specs.AnyValue.{AnyValue, type_of}
@@ -7,12 +7,15 @@ use Rattle.osl_value.specs.WellFormed.{IsValue, IsOfType}
 use Rattle.osl_layer.specs.Globals.{type_of_global}
 use Rattle.osl_layer.specs.declared.global.GlobalName.{GlobalName}
 use Rattle.osl_layer.specs.Layer.{From, Inputs}
+use Rattle.osl_overload.specs.declared.signature.Formal.{Formal}
 use Rattle.osl_overload.specs.declared.signature.Kind.{Kind}
 use Rattle.osl_overload.specs.declared.signature.Kind.TheVariants.{Value}
+use Rattle.osl_typed.specs.declared.shader.TypedFunction.{TypedFunction}
 use Rattle.osl_typed.specs.declared.shader.TypedStructure.{TypedStructure}
+use Rattle.osl_typed.specs.Expressions.{Calls, Called, Came, Left, Lost}
 use Rattle.osl_typed.specs.Frames.{leaves_of}
 use Rattle.osl_typed.specs.Parts.{Frame}
-use Rattle.osl_typed.specs.State.{Environment, Globals, State, ExpressionEnd, Gives, Exits, Spent}
+use Rattle.osl_typed.specs.State.{Environment, Globals, Reads, State, ExpressionEnd, Gives, Exits, Spent}
 use Rattle.osl_welltyped.specs.Kinded.{Rules, is_type}
 use Rattle.osl_welltyped.specs.WellTyped.{structures_fit}
 
@@ -66,3 +69,23 @@ pub record IsTypedFrame (rules : Rules) (inputs : Inputs) : Type 0 where
   pub types : (k : ℕ) (ty : Ty) → slice_get (types_by rules) k ≡ Some ty → IsTrue (is_type ty)
   pub connected : (k : ℕ) (v : AnyValue) → inputs k ≡ From (Some v) → slice_get rules.kinds k ≡ Some (Value (type_of v))
   pub given : (k : ℕ) (v : AnyValue) → inputs k ≡ From (Some v) → IsValue v
+
+-- ---- calls
+
+-- what formal parameters of these hold
+abbrev pub AreArguments : List TypedStructure → List Formal → List (List AnyValue) → Type 0
+AreArguments structures [] [] = Unit {0}
+AreArguments structures [] (arg ∷ args) = ⊥
+AreArguments structures (formal ∷ formals) [] = ⊥
+AreArguments structures (formal ∷ formals) (arg ∷ args) = IsOfKind structures formal.kind arg × AreArguments structures formals args
+
+-- a call that comes back gives its result's kind, and its formal parameters hold values of theirs
+abbrev pub CallEndsTyped : List TypedStructure → TypedFunction → Called → Type 0
+CallEndsTyped structures f (Came result formals turns reads) = IsOfKind structures f.result result × AreArguments structures f.formals formals
+CallEndsTyped structures f (Left turns reads) = Unit {0}
+CallEndsTyped structures f (Lost turns reads) = Unit {0}
+
+-- from arguments of their kinds
+pub record CallsKeep (structures : List TypedStructure) (functions : List TypedFunction) (calls : Calls) : Type 0 where
+  pub each : (n : ℕ) (f : TypedFunction) (args : List (List AnyValue)) (globals : Globals) (turns : ℕ) (reads : Reads) → slice_get functions n ≡ Some f → AreArguments structures f.formals args → AreGlobals globals
+      → CallEndsTyped structures f (calls n args globals turns reads)
