@@ -3,3 +3,4 @@ mod Ints
 mod Floats
 mod Geometry
 mod Texts
+mod Types
