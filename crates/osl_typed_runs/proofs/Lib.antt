@@ -6,3 +6,4 @@ pub mod PartTypes
 pub mod KindTests
 pub mod NodeTypes
 pub mod CallTypes
+pub mod ExpressionTypes
