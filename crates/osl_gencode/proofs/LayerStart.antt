@@ -30,13 +30,13 @@ use Rattle.osl_gencode.proofs.OpValues.{zero_type}
 
 -- ---- the symbols of a shader
 
--- the symbol of a parameter; its default is a section, so it states no value
+-- the symbol of a parameter; its default is a section, so it states zeros, or nothing where it is a closure
 pub record IsParam (p : TypedParam) (symbols : List Symbol) (k : ℕ) : Type 0 where
   pub symbol : Symbol
   pub here : slice_get symbols k ≡ Some symbol
   pub class : symbol.class ≡ (if p.output then C.Oparam else C.Param)
   pub type : symbol.ty ≡ p.ty
-  pub value : symbol.value ≡ None
+  pub value : stated symbol.ty symbol.value ≡ zero_value symbol.ty
 
 pub record IsGlobal (g : GlobalName) (symbols : List Symbol) (k : ℕ) : Type 0 where
   pub symbol : Symbol
@@ -90,7 +90,7 @@ param_start p symbols k input point is =
     by_input : (i : Input) → parameter_start is.symbol i ≡ source.start_value p i
     by_input (From o) = ap zero_value is.type
     by_input (Fixed v) = refl
-    by_input Default = ap (stated is.symbol.ty) is.value ∙ ap zero_value is.type
+    by_input Default = is.value ∙ ap zero_value is.type
 
 local_start : (ty : Ty) (symbols : List Symbol) (k : ℕ) (input : Input) (point : Point) → IsLocal ty symbols k → symbol_start input point (slice_get symbols k) ≡ zero_value ty
 local_start ty symbols k input point is =
