@@ -54,3 +54,4 @@ pub mod SizeStores
 pub mod SizeStatements
 pub mod SizeRanges
 pub mod SizeCalls
+pub mod FittingOps

@@ -7,3 +7,4 @@ pub mod PartCodes
 pub mod CallCodes
 pub mod StandsFor
 pub mod Sizes
+pub mod Validity
