@@ -80,7 +80,7 @@ module _ (structures : List TypedStructure) where
       ∙ ap (λ l. leaves_below structures p j ++ l) (same_leaves m n p kinds ln lp parts.1)
   same_leaves m n p (Void ∷ kinds) ln lp fit = same_leaves m n p kinds ln lp (and_parts (field_fits m Void) (list_all (field_fits m) kinds) fit).1
 
-  fit_at : (all : List TypedStructure) (n m : ℕ) → structures_fit n all ≡ true → list_all (field_fits (n + m)) (fields_of all m) ≡ true
+  pub fit_at : (all : List TypedStructure) (n m : ℕ) → structures_fit n all ≡ true → list_all (field_fits (n + m)) (fields_of all m) ≡ true
   fit_at [] n m fit = refl
   fit_at (x ∷ all) n zero fit =
       let e : n + 0 ≡ n = omega arith in
@@ -95,7 +95,7 @@ module _ (structures : List TypedStructure) where
   there (x ∷ all) (suc m) field kind h = let r = there all m field kind h in omega (arith, r)
 
   module _ (fit : structures_fit 0 structures ≡ true) where
-    leaves_inside : (m : ℕ) → m < length structures → leaves_of structures (Structure m) ≡ flat_map (leaves_of structures) (fields_of structures m)
+    pub leaves_inside : (m : ℕ) → m < length structures → leaves_of structures (Structure m) ≡ flat_map (leaves_of structures) (fields_of structures m)
     leaves_inside m lt =
         let e : 0 + m ≡ m = omega arith in
         leaves_own (length structures) m lt

@@ -2,6 +2,7 @@ pub mod Values
 pub mod SelectedTypes
 pub mod LeafRows
 pub mod LeafTypes
+pub mod LeafKinds
 pub mod PartTypes
 pub mod KindTests
 pub mod NodeTypes

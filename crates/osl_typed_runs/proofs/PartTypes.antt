@@ -24,6 +24,7 @@ use Rattle.osl_typed.specs.State.{State, ExpressionEnd, Gives, Exits, Spent, lea
 use Rattle.osl_welltyped.specs.Kinded.{Rules, led_to, root_kind, is_type}
 use Rattle.osl_welltyped.proofs.Steps.{none_is_not, some_same}
 use Rattle.osl_typed_runs.specs.Typed.{AreOfTypes, IsOfKind, IsTypedState, EndsTyped, LiesIn, frame_by, types_by, IsTypedFrame}
+use Rattle.osl_typed_runs.proofs.LeafKinds.{leaf_fits}
 use Rattle.osl_typed_runs.proofs.LeafRows.{lies_part}
 use Rattle.osl_typed_runs.proofs.LeafTypes.{one_value, first_value, row_held, row_written, global_written}
 use Rattle.osl_typed_runs.proofs.SelectedTypes.{selected_typed, with_selected_typed}
@@ -129,7 +130,7 @@ module _ (rules : Rules) (inputs : Inputs) (fit : IsTypedFrame rules inputs) whe
         let at = first_leaf (frame_by rules inputs) k part in
         let row = leaves_of rules.structures part.kind in
         let own = leaves_at s.vars at (length row) in
-        let new = with_selection_typed rules.structures part own is xs named all (λ ty e. fit.types (at + 0) ty ((lies k here).each 0 ty (ap (λ z. slice_get (leaves_of rules.structures z) 0) e))) (row_held (types_by rules) row s.vars at typed.vars (lies k here)) x in
+        let new = with_selection_typed rules.structures part own is xs named all (λ ty e. leaf_fits rules inputs fit (at + 0) ty ((lies k here).each 0 ty (ap (λ z. slice_get (leaves_of rules.structures z) 0) e))) (row_held (types_by rules) row s.vars at typed.vars (lies k here)) x in
         record {
           vars = row_written (types_by rules) row (with_selection part own is xs) s.vars at typed.vars new (lies k here);
           globals = typed.globals;

@@ -1,6 +1,6 @@
 -- States in which each leaf and each global variable holds a value of its type, in range, and expressions, statements and calls that keep this.
 use Rattle.std.specs.Prelude.{ℕ, ◌≡◌, ◌+◌, List, map, Some, slice_get, IsTrue, [], ◌∷◌}
-use Rattle.std.specs.List.{All, flat_map}
+use Rattle.std.specs.List.{All, flat_map, list_all}
 use Rattle.osl_value.specs.declared.types.Ty.{Ty}
 use Rattle.osl_value.specs.AnyValue.{AnyValue, type_of}
 use Rattle.osl_value.specs.WellFormed.{IsValue, IsOfType}
@@ -16,8 +16,8 @@ use Rattle.osl_typed.specs.Expressions.{Calls, Called, Came, Left, Lost}
 use Rattle.osl_typed.specs.Frames.{leaves_of}
 use Rattle.osl_typed.specs.Parts.{Frame}
 use Rattle.osl_typed.specs.State.{Environment, Globals, Reads, State, ExpressionEnd, Gives, Exits, Spent}
-use Rattle.osl_welltyped.specs.Kinded.{Rules, is_type}
-use Rattle.osl_welltyped.specs.WellTyped.{structures_fit}
+use Rattle.osl_welltyped.specs.Kinded.{Rules}
+use Rattle.osl_welltyped.specs.WellTyped.{structures_fit, variable_fits}
 
 -- ---- values
 
@@ -63,10 +63,10 @@ frame_by rules inputs = record { structures = rules.structures; kinds = rules.ki
 abbrev pub types_by : Rules → List Ty
 types_by rules = flat_map (leaves_of rules.structures) rules.kinds
 
--- structures are in order, each leaf has a type of the language, and what is connected is a value of the type of its variable
+-- structures are in order, each variable has a kind that a variable may have, and what is connected is a value of the type of its variable
 pub record IsTypedFrame (rules : Rules) (inputs : Inputs) : Type 0 where
   pub structures : IsTrue (structures_fit 0 rules.structures)
-  pub types : (k : ℕ) (ty : Ty) → slice_get (types_by rules) k ≡ Some ty → IsTrue (is_type ty)
+  pub kinds : IsTrue (list_all (variable_fits rules.structures) rules.kinds)
   pub connected : (k : ℕ) (v : AnyValue) → inputs k ≡ From (Some v) → slice_get rules.kinds k ≡ Some (Value (type_of v))
   pub given : (k : ℕ) (v : AnyValue) → inputs k ≡ From (Some v) → IsValue v
 
