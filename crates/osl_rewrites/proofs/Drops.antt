@@ -12,7 +12,10 @@ use Rattle.oso_code.specs.Uses.{reads_on_entry, reads_in_test, written_by}
 use Rattle.oso_code.specs.declared.op.Section.{Section}
 use Rattle.oso_code.proofs.Steady.{closed_later}
 use Rattle.osl_rewrites.specs.Drop.{Agree, NoNewRead, ends_around, AllSure, MayGive, MayGiveAll, WiredOne, WiredAll, Spared, Stood, Died, Eased, Rewired, RewiredBranch, RewiredLoop}
-use Rattle.osl_rewrites.specs.Flow.{Spot, At, Test, Around, left_to, first, entry, within_branch, within_test, within_step, within_body, within_call, IsAround, Surrounds, nexts_of, test_nexts, In, Among, Settled}
+use Rattle.osl_rewrites.specs.Flow.{left_to, first, entry, within_branch, within_test, within_step, within_body, within_call, IsAround, Surrounds, nexts_of, test_nexts, In, Among, Settled}
+use Rattle.osl_rewrites.specs.declared.point.Around.{Around}
+use Rattle.osl_rewrites.specs.declared.point.Spot.{Spot}
+use Rattle.osl_rewrites.specs.declared.point.Spot.TheVariants.{At, Test}
 use Rattle.osl_rewrites.specs.Quiet.{quiet}
 use Rattle.osl_rewrites.specs.Side.{Relation, AtEnds, Match, MatchReading, going_on, looping, calling, Into, Turning, whether, before_place, before, Part, Place, ByStep, ByBranch, ByLoop, ByCall}
 use Rattle.osl_rewrites.proofs.Held.{put_other}

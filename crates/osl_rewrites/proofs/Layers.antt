@@ -9,7 +9,10 @@ use Rattle.oso_code.specs.Steps.{Way, Break, Continue, Return, Exit, Step}
 use Rattle.oso_code.specs.declared.op.Section.{Section}
 use Rattle.osl_rewrites.specs.Cut.{moved_section}
 use Rattle.osl_rewrites.specs.Drop.{layer_ends, Agree, ends_around, Spared}
-use Rattle.osl_rewrites.specs.Flow.{Spot, Gate, Done, Around, left_to, first, within_section, Surrounds, gate_nexts, Among, Settled}
+use Rattle.osl_rewrites.specs.Flow.{left_to, first, within_section, Surrounds, gate_nexts, Among, Settled}
+use Rattle.osl_rewrites.specs.declared.point.Around.{Around}
+use Rattle.osl_rewrites.specs.declared.point.Spot.{Spot}
+use Rattle.osl_rewrites.specs.declared.point.Spot.TheVariants.{Gate, Done}
 use Rattle.osl_rewrites.specs.Quiet.{quiet, quiet_range, quiet_sections}
 use Rattle.osl_rewrites.specs.Side.{Match, going_on, Into}
 use Rattle.osl_rewrites.proofs.Drops.{narrow, dead_run}

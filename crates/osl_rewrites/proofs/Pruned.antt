@@ -16,7 +16,10 @@ use Rattle.oso_code.proofs.Chained.{section_closed, section_within}
 use Rattle.oso_code.proofs.Nested.{valid_nested}
 use Rattle.osl_rewrites.specs.Cut.{new_place, moved, cut, CutSteps}
 use Rattle.osl_rewrites.specs.Drop.{Dead, layer_ends, Spared, Stood, Died}
-use Rattle.osl_rewrites.specs.Flow.{Spot, Gate, Around, Surrounds, Settled}
+use Rattle.osl_rewrites.specs.Flow.{Surrounds, Settled}
+use Rattle.osl_rewrites.specs.declared.point.Around.{Around}
+use Rattle.osl_rewrites.specs.declared.point.Spot.{Spot}
+use Rattle.osl_rewrites.specs.declared.point.Spot.TheVariants.{Gate}
 use Rattle.osl_rewrites.specs.Quiet.{quiet_layer}
 use Rattle.osl_rewrites.specs.Side.{Match}
 use Rattle.osl_rewrites.proofs.CutCode.{cut_steps}

@@ -8,7 +8,10 @@ use Rattle.osl_value.specs.Apply.{apply}
 use Rattle.oso_code.specs.Run.{State, Source, Own, Wired, Held, Sources}
 use Rattle.oso_code.specs.Steps.{Span, span, Step, Compute, Branch, Loop, Call}
 use Rattle.osl_rewrites.specs.Side.{AtEnds}
-use Rattle.osl_rewrites.specs.Flow.{Spot, Done, Around, first, left_to}
+use Rattle.osl_rewrites.specs.Flow.{first, left_to}
+use Rattle.osl_rewrites.specs.declared.point.Around.{Around}
+use Rattle.osl_rewrites.specs.declared.point.Spot.{Spot}
+use Rattle.osl_rewrites.specs.declared.point.Spot.TheVariants.{Done}
 
 -- the same values where the row asks, the same turns, and no read that is new
 pub record Agree (row : ℕ → Bool) (s t : State) : Type 0 where

@@ -3,21 +3,9 @@ use Rattle.std.specs.Prelude.{◌≡◌, ℕ, ◌+◌, ◌<◌, ◌⊎◌, List,
 use Rattle.oso_code.specs.Steps.{Span, Way, Break, Continue, Return, Exit, Step, Compute, Branch, Loop, Call, Leave}
 use Rattle.oso_code.specs.Uses.{reads_on_entry, reads_in_test, written_by}
 use Rattle.oso_code.specs.declared.op.Section.{Section}
-
--- a spot of the code (a program point): before an op, before the condition of a loop is read, before a section, or the layer's end
-pub data Spot : Type 0 where
-  At : ℕ → Spot
-  Test : ℕ → Spot
-  Gate : ℕ → Spot
-  Done : Spot
-
--- the range around an op: where it ends, and where its end and the ways out of it lead
-pub record Around : Type 0 where
-  pub end : ℕ
-  pub next : Spot
-  pub breaks : Spot
-  pub continues : Spot
-  pub returns : Spot
+use Rattle.osl_rewrites.specs.declared.point.Around.{Around}
+use Rattle.osl_rewrites.specs.declared.point.Spot.{Spot}
+use Rattle.osl_rewrites.specs.declared.point.Spot.TheVariants.{At, Test, Gate, Done}
 
 -- where a way out of a range leads
 abbrev pub left_to : Around → Way → Spot

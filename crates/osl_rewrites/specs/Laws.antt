@@ -15,7 +15,9 @@ use Rattle.oso_code.specs.declared.raw.Raw.{Raw}
 use Rattle.osl_rewrites.specs.Choice.{Chosen, KeptChoice}
 use Rattle.osl_rewrites.specs.Cut.{new_place, cut, CutSteps}
 use Rattle.osl_rewrites.specs.Drop.{layer_ends, Dead}
-use Rattle.osl_rewrites.specs.Flow.{Spot, Around, Surrounds, Settled}
+use Rattle.osl_rewrites.specs.Flow.{Surrounds, Settled}
+use Rattle.osl_rewrites.specs.declared.point.Around.{Around}
+use Rattle.osl_rewrites.specs.declared.point.Spot.{Spot}
 use Rattle.osl_rewrites.specs.Known.{Known, hold, Sound, Knowing}
 use Rattle.osl_rewrites.specs.Once.{Once, CopyFate}
 use Rattle.osl_rewrites.specs.Quiet.{quiet, quiet_range, quiet_sections, quiet_layer}

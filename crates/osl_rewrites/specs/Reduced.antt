@@ -21,7 +21,8 @@ use Rattle.oso_code.specs.declared.raw.Raw.{Raw}
 use Rattle.oso_code.specs.declared.symbol.Class.{Class}
 use Rattle.oso_code.specs.declared.symbol.Class.TheVariants.{Param, Oparam, Global, Const, Local, Temp}
 use Rattle.oso_code.specs.declared.symbol.Symbol.{Symbol}
-use Rattle.osl_rewrites.specs.Flow.{Around, Surrounds, LiveAfter}
+use Rattle.osl_rewrites.specs.Flow.{Surrounds, LiveAfter}
+use Rattle.osl_rewrites.specs.declared.point.Around.{Around}
 use Rattle.osl_rewrites.specs.Identities.{Identity, forms_of, row_fits, no_longer_read}
 use Rattle.osl_rewrites.specs.Known.{Known}
 
