@@ -8,3 +8,4 @@ pub mod KindTests
 pub mod NodeTypes
 pub mod CallTypes
 pub mod ExpressionTypes
+pub mod InitTypes
