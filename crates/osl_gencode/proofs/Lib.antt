@@ -55,3 +55,4 @@ pub mod SizeStatements
 pub mod SizeRanges
 pub mod SizeCalls
 pub mod FittingOps
+pub mod RangeDepth

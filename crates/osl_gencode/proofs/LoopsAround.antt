@@ -85,10 +85,10 @@ take_more [] n step at = absurd (cc at)
 take_more (x ∷ steps) zero step at = let s : Some x ≡ Some step = at in ap (λ z. z ∷ []) (cc s)
 take_more (x ∷ steps) (suc n) step at = ap (λ l. x ∷ l) (take_more steps n step at)
 
-ranges_more : (steps : List Step) (n : ℕ) (step : Step) → slice_get steps n ≡ Some step → flat_map ranges_of (reverse (take (suc n) steps)) ≡ ranges_of step ++ flat_map ranges_of (reverse (take n steps))
+pub ranges_more : (steps : List Step) (n : ℕ) (step : Step) → slice_get steps n ≡ Some step → flat_map ranges_of (reverse (take (suc n) steps)) ≡ ranges_of step ++ flat_map ranges_of (reverse (take n steps))
 ranges_more steps n step at = ap (λ l. flat_map ranges_of (reverse l)) (take_more steps n step at) ∙ ap (flat_map ranges_of) (reverse-append (take n steps) (step ∷ []))
 
-there : (steps : List Step) (n k : ℕ) (step : Step) → slice_get steps k ≡ Some step → n ≤ k → (s : Step) × (slice_get steps n ≡ Some s)
+pub there : (steps : List Step) (n k : ℕ) (step : Step) → slice_get steps k ≡ Some step → n ≤ k → (s : Step) × (slice_get steps n ≡ Some s)
 there [] n k step at le = absurd (cc at)
 there (x ∷ steps) zero k step at le = (x, refl)
 there (x ∷ steps) (suc n) zero step at le = absurd (omega (arith, le))
