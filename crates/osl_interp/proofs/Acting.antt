@@ -24,15 +24,15 @@ use Rattle.oso_code.specs.Steps.{step_of}
 use Rattle.oso_code.proofs.Decoding.{step_at, length_steps}
 use Rattle.oso_code.proofs.Nested.{valid_nested}
 use Rattle.osl_interp.specs.Advances.{Advances, Asks, EndsAs, here, reads_first, turn_weight, one_op}
-use Rattle.osl_interp.specs.Decoded.{seen_span}
+use Rattle.oso_step.specs.Decoded.{seen_span}
 use Rattle.osl_interp.specs.Known.{met, is_wired, is_wired_at, given_reads, FitsAt, Fits}
 use Rattle.osl_interp.specs.Meaning.{Configuration, held_values, configuration, behind, resume, now, state_of, later_sections, comes_from, meaning, pending_in, pending}
 use Rattle.osl_interp.specs.Ready.{IsLaid, IsRange, IsLoop, Ready}
 use Rattle.osl_interp.specs.declared.frame.Frame.TheVariants.{Rest, Called, Test, Body}
-use Rattle.osl_interp.specs.declared.frame.LoopOp.{LoopOp}
+use Rattle.oso_step.specs.declared.step.LoopOp.{LoopOp}
 use Rattle.osl_interp.specs.declared.frame.Mode.{Mode}
 use Rattle.osl_interp.specs.declared.frame.Mode.TheVariants as M
-use Rattle.osl_interp.specs.declared.frame.Span.{Span}
+use Rattle.oso_step.specs.declared.step.Span.{Span}
 use Rattle.osl_interp.specs.declared.known.Known.{Known}
 use Rattle.osl_interp.specs.declared.known.Known.TheVariants as K
 use Rattle.osl_interp.specs.declared.known.Met.TheVariants as T

@@ -1,9 +1,9 @@
 -- The calls on a run: what it is after each, and what callers then see.
-use Rattle.std.proofs.Common.{◌≡◌, ◌≢◌, ℕ, ◌+◌, ◌-◌, ◌≤◌, ⊎_elim, List, length, Option, Some, None, Bool, true, refl, sym, ap, ◌∙◌, subst, arith}
+use Rattle.std.proofs.Common.{◌≡◌, ◌≢◌, ℕ, ◌+◌, ◌-◌, ◌≤◌, ⊎_elim, List, length, Option, Some, None, true, refl, sym, ap, ◌∙◌, subst, arith}
 use Rattle.std.specs.Prelude.{slice_get, slice_set}
 use Rattle.std.proofs.lemmas.Bool.{cases_eq}
 use Rattle.std.proofs.lemmas.Option.{slice_get_within}
-use Rattle.osl_value.specs.AnyValue.{AnyValue, argument, type_of}
+use Rattle.osl_value.specs.AnyValue.{AnyValue, type_of}
 use Rattle.osl_value.specs.Plain.{Plain}
 use Rattle.osl_apply.specs.declared.slot.Slot.{Slot}
 use Rattle.osl_apply.specs.Operands.{values}
@@ -11,18 +11,16 @@ use Rattle.osl_layer.specs.Layer as L
 use Rattle.oso_code.specs.CodeRun.{code_run, ops_run, layer_end, results_by, outputs_from, closure_from}
 use Rattle.oso_code.specs.Ops.{type_at}
 use Rattle.oso_code.specs.Run.{State, Outcome, Spent, note, last}
-use Rattle.osl_interp.specs.Advances.{Asks, EndsAs}
+use Rattle.osl_interp.specs.Advances.{Asks}
 use Rattle.osl_interp.specs.Calls.{MayGo, GoDone, gave}
 use Rattle.osl_interp.specs.Calls as Called
 use Rattle.osl_interp.specs.Known.{Fits}
-use Rattle.osl_interp.specs.Known as Machine
-use Rattle.osl_interp.specs.Meaning.{Configuration, configuration, held_values, state_of, comes_from, meaning, pending}
+use Rattle.osl_interp.specs.Meaning.{Configuration, configuration, held_values, state_of, meaning, pending}
 use Rattle.osl_interp.specs.Progress.{Progress, AgreesAt, Agrees, given_reads, IsWithin, IsOver, IsAtRead, StopSound, outputs_of, closure_of}
 use Rattle.osl_interp.specs.Ready.{IsLaid}
 use Rattle.osl_interp.specs.Stops.{Goes, Finishes, Fails, Counted, EndDone, AreKept, KeptAt}
-use Rattle.osl_interp.specs.View.{Plan, seen_known, seen_knowns, supposed_at, supposed, supposed_ops, ops_at, progress_of, Follows, IsFinished, Holds, IsRunOf, plan_of, progress, IsRun}
+use Rattle.osl_interp.specs.View.{Plan, seen_known, seen_knowns, supposed_at, supposed, supposed_ops, progress_of, Follows, IsFinished, Holds, IsRunOf, plan_of, progress, IsRun}
 use Rattle.osl_interp.specs.declared.known.Known.{Known}
-use Rattle.osl_interp.specs.declared.known.Known.TheVariants as K
 use Rattle.osl_interp.specs.declared.layer_run.LayerRun.TheInside.{Inside}
 use Rattle.osl_interp.specs.declared.layer_run.Status.{Status}
 use Rattle.osl_interp.specs.declared.layer_run.Status.TheVariants.{Fresh, Resumed, Stopped, Lost}

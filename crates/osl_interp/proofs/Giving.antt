@@ -27,10 +27,10 @@ use Rattle.osl_interp.specs.Meaning.{Configuration, held_values, state_of, comes
 use Rattle.osl_interp.specs.Ready.{IsLaid, Spares, IsRange, IsLoop, IsFrame, AreFrames, Ready}
 use Rattle.osl_interp.specs.declared.frame.Frame.{Frame}
 use Rattle.osl_interp.specs.declared.frame.Frame.TheVariants.{Rest, Called, Test, Body, Step}
-use Rattle.osl_interp.specs.declared.frame.LoopOp.{LoopOp}
+use Rattle.oso_step.specs.declared.step.LoopOp.{LoopOp}
 use Rattle.osl_interp.specs.declared.known.Known.{Known}
 use Rattle.osl_interp.specs.declared.known.Known.TheVariants as K
-use Rattle.osl_interp.proofs.Laying.{length_values, put_argument, keep_argument}
+use Rattle.osl_interp.proofs.Laying.{put_argument, keep_argument}
 
 -- ---- inputs that are connected as before
 

@@ -1,5 +1,5 @@
 -- The ends of ranges: what each frame goes on with.
-use Rattle.std.proofs.Common.{◌≡◌, ◌≢◌, ℕ, suc, ◌+◌, ◌*◌, ◌<◌, ◌≤◌, ◌⊎◌, inl, inr, List, [], ◌∷◌, ◌++◌, length, Some, None, Bool, true, false, add-zero, refl, sym, ap, ◌∙◌, subst, arith}
+use Rattle.std.proofs.Common.{◌≡◌, ◌≢◌, ℕ, suc, ◌+◌, ◌*◌, ◌<◌, ◌≤◌, ◌⊎◌, inl, inr, List, [], ◌∷◌, ◌++◌, length, Some, Bool, true, false, add-zero, refl, sym, ap, ◌∙◌, subst, arith}
 use Rattle.std.specs.Prelude.{if◌then◌else◌}
 use Rattle.std.proofs.lemmas.Bool.{le-ltb}
 use Rattle.osl_value.specs.AnyValue.{AnyValue, argument}
@@ -15,10 +15,10 @@ use Rattle.osl_interp.specs.Meaning.{Configuration, run_range, from_test, from_t
 use Rattle.osl_interp.specs.Ready.{IsLoop, Ready}
 use Rattle.osl_interp.specs.declared.frame.Frame.{Frame}
 use Rattle.osl_interp.specs.declared.frame.Frame.TheVariants.{Rest, Called, Test, Body, Step}
-use Rattle.osl_interp.specs.declared.frame.LoopOp.{LoopOp}
+use Rattle.oso_step.specs.declared.step.LoopOp.{LoopOp}
 use Rattle.osl_interp.specs.declared.frame.Mode.{Mode}
 use Rattle.osl_interp.specs.declared.frame.Mode.TheVariants as M
-use Rattle.osl_interp.specs.declared.frame.Span.{Span}
+use Rattle.oso_step.specs.declared.step.Span.{Span}
 use Rattle.osl_interp.specs.declared.known.Met.TheVariants as T
 use Rattle.osl_interp.specs.declared.stop.LayerStop.TheVariants as P
 use Rattle.osl_interp.proofs.Frames.{resume_push, resume_spent, over, state_at, top, Top, top_frame, left, swapped, split, under, top_of}

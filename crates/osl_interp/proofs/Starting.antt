@@ -32,7 +32,6 @@ use Rattle.oso_code.specs.Symbols.{is_parameter, parameter_fits, is_global_type,
 use Rattle.oso_code.specs.Valid.{IsValid}
 use Rattle.oso_code.proofs.Members.{and_both}
 use Rattle.osl_interp.specs.Known.{is_wired, is_given, is_wired_at}
-use Rattle.osl_interp.specs.Known as Machine
 use Rattle.osl_interp.specs.Calls.{HasOneEach, InputsFit, begun, first_known, first_knowns}
 use Rattle.osl_interp.specs.Meaning.{Configuration, held_values, state_of, later_sections, meaning}
 use Rattle.osl_interp.specs.Ready.{IsLaid, Ready}

@@ -1,11 +1,11 @@
 -- What runs say of the code that they run.
-use Rattle.std.proofs.Common.{◌≡◌, ℕ, zero, suc, List, [], ◌∷◌, Option, Some, None, Bool, true, false, refl, sym, ap, ◌∙◌, subst, arith}
+use Rattle.std.proofs.Common.{◌≡◌, ℕ, zero, suc, List, [], ◌∷◌, Option, Some, None, Bool, true, false, ap, ◌∙◌, subst, arith}
 use Rattle.std.specs.Prelude.{slice_get, IsSome}
 use Rattle.osl_value.specs.AnyValue.{AnyValue}
 use Rattle.osl_value.specs.Plain.{Plain}
 use Rattle.osl_layer.specs.Layer as L
 use Rattle.osl_interp.specs.Calls.{first_knowns, gave}
-use Rattle.osl_interp.specs.Progress.{Progress, AgreesAt, Agrees, given_reads, IsWithin, IsOver, StatusSound, IsSound, whole}
+use Rattle.osl_interp.specs.Progress.{Progress, AgreesAt, Agrees, IsWithin, IsOver, StatusSound, IsSound, whole}
 use Rattle.osl_interp.specs.Starts.{BeginsAt}
 use Rattle.osl_interp.specs.Whole.{Begins, EndsAsCode, IsPartOfCode, IsNotLost}
 use Rattle.osl_interp.specs.declared.layer_run.Status.{Status}

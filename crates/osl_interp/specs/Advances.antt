@@ -11,10 +11,10 @@ use Rattle.osl_interp.specs.Meaning.{Configuration, state_of, comes_from, meanin
 use Rattle.osl_interp.specs.Ready.{Ready}
 use Rattle.osl_interp.specs.declared.frame.Frame.{Frame}
 use Rattle.osl_interp.specs.declared.frame.Frame.TheVariants.{Rest, Called, Test, Body, Step}
-use Rattle.osl_interp.specs.declared.frame.LoopOp.{LoopOp}
+use Rattle.oso_step.specs.declared.step.LoopOp.{LoopOp}
 use Rattle.osl_interp.specs.declared.frame.Mode.{Mode}
 use Rattle.osl_interp.specs.declared.frame.Mode.TheVariants as M
-use Rattle.osl_interp.specs.declared.frame.Span.{Span}
+use Rattle.oso_step.specs.declared.step.Span.{Span}
 use Rattle.osl_interp.specs.declared.known.Known.TheVariants.{Waiting}
 use Rattle.osl_interp.specs.declared.known.Met.TheVariants as Meets
 use Rattle.osl_interp.specs.declared.stop.LayerStop.{LayerStop}

@@ -1,5 +1,5 @@
 -- What the calls on a run of a layer ask for and give.
-use Rattle.std.specs.Prelude.{◌≡◌, ℕ, ◌+◌, ◌≤◌, nat_lt, Bool, true, false, List, [], ◌∷◌, Option, Some, None, IsSome, length, slice_get, slice_set}
+use Rattle.std.specs.Prelude.{◌≡◌, ℕ, ◌+◌, ◌≤◌, nat_lt, Bool, true, false, List, [], ◌∷◌, Option, Some, None, length, slice_get, slice_set}
 use Rattle.osl_value.specs.AnyValue.{AnyValue, Of, Parts, type_of}
 use Rattle.osl_value.specs.Plain.{Plain}
 use Rattle.osl_value.specs.declared.point.Point.{Point}
@@ -9,7 +9,7 @@ use Rattle.oso_code.specs.declared.symbol.Class.TheVariants.{Param, Oparam}
 use Rattle.oso_code.specs.declared.symbol.Symbol.{Symbol}
 use Rattle.oso_code.specs.CodeRun.{is_parameter_at}
 use Rattle.oso_code.specs.Ops.{type_at}
-use Rattle.osl_interp.specs.Progress.{Progress, Agrees, IsOver, IsWithin, IsAtRead, StopSound, whole_ops}
+use Rattle.osl_interp.specs.Progress.{Progress, Agrees, StopSound, whole_ops}
 use Rattle.osl_interp.specs.declared.layer_run.Given.{Given}
 use Rattle.osl_interp.specs.declared.layer_run.Given.TheVariants as G
 use Rattle.osl_interp.specs.declared.layer_run.OutRef.{OutRef}
@@ -17,7 +17,6 @@ use Rattle.osl_interp.specs.declared.layer_run.OutRef.TheVariants as O
 use Rattle.osl_interp.specs.declared.layer_run.Status.{Status}
 use Rattle.osl_interp.specs.declared.layer_run.Status.TheVariants.{Fresh, Resumed, Stopped, Lost}
 use Rattle.osl_interp.specs.declared.stop.LayerStop.{LayerStop}
-use Rattle.osl_interp.specs.declared.stop.LayerStop.TheVariants.{Done, Spent, Needs}
 
 -- ---- start
 

@@ -1,6 +1,5 @@
 pub mod Advances
 pub mod Calls
-pub mod Decoded
 pub mod Known
 pub mod Meaning
 pub mod Progress

@@ -12,10 +12,10 @@ use Rattle.oso_code.specs.Steps as S
 use Rattle.osl_interp.specs.Known.{is_wired_at, given_reads}
 use Rattle.osl_interp.specs.declared.frame.Frame.{Frame}
 use Rattle.osl_interp.specs.declared.frame.Frame.TheVariants.{Rest, Called, Test, Body, Step}
-use Rattle.osl_interp.specs.declared.frame.LoopOp.{LoopOp}
+use Rattle.oso_step.specs.declared.step.LoopOp.{LoopOp}
 use Rattle.osl_interp.specs.declared.frame.Mode.{Mode}
 use Rattle.osl_interp.specs.declared.frame.Mode.TheVariants as M
-use Rattle.osl_interp.specs.declared.frame.Span.{Span}
+use Rattle.oso_step.specs.declared.step.Span.{Span}
 use Rattle.osl_interp.specs.declared.known.Known.{Known}
 use Rattle.osl_interp.specs.declared.machine.Machine.{Machine}
 

@@ -16,8 +16,8 @@ use Rattle.osl_interp.specs.Known.{is_wired_at}
 use Rattle.osl_interp.specs.Meaning.{Configuration}
 use Rattle.osl_interp.specs.declared.frame.Frame.{Frame}
 use Rattle.osl_interp.specs.declared.frame.Frame.TheVariants.{Rest, Called, Test, Body, Step}
-use Rattle.osl_interp.specs.declared.frame.LoopOp.{LoopOp}
-use Rattle.osl_interp.specs.declared.frame.Span.{Span}
+use Rattle.oso_step.specs.declared.step.LoopOp.{LoopOp}
+use Rattle.oso_step.specs.declared.step.Span.{Span}
 use Rattle.osl_interp.specs.declared.known.Known.{Known}
 
 -- the inputs and the symbols' values are those of the code

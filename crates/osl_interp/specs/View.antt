@@ -1,5 +1,5 @@
 -- What the fields of a run are seen as, and what holds of them.
-use Rattle.std.specs.Prelude.{◌≡◌, ℕ, ◌+◌, ◌-◌, nat_lt, if◌then◌else◌, List, [], ◌∷◌, Option, Some, None, slice_get, slice_set}
+use Rattle.std.specs.Prelude.{◌≡◌, ℕ, ◌+◌, ◌-◌, List, [], ◌∷◌, Option, Some, None, slice_get, slice_set}
 use Rattle.osl_value.specs.AnyValue.{AnyValue, Of, Parts, argument}
 use Rattle.osl_value.specs.Plain.{Plain}
 use Rattle.osl_value.specs.declared.point.Point.{Point}
@@ -8,7 +8,6 @@ use Rattle.osl_layer.specs.Layer as L
 use Rattle.oso_code.specs.declared.raw.Raw.{Raw}
 use Rattle.oso_code.specs.CodeRun.{results_by, layer_run, ops_run}
 use Rattle.osl_interp.specs.Advances.{Asks}
-use Rattle.osl_interp.specs.Known.{Fits}
 use Rattle.osl_interp.specs.Stops.{AreKept}
 use Rattle.osl_interp.specs.Meaning.{Configuration, configuration, held_values, state_of, meaning, pending}
 use Rattle.osl_interp.specs.Progress.{Progress, Agrees, IsSound}
@@ -18,7 +17,6 @@ use Rattle.osl_interp.specs.declared.known.Known.TheVariants as K
 use Rattle.osl_interp.specs.declared.layer_run.LayerRun.TheInside.{Inside}
 use Rattle.osl_interp.specs.declared.layer_run.Status.{Status}
 use Rattle.osl_interp.specs.declared.layer_run.Status.TheVariants.{Fresh, Resumed, Stopped, Lost}
-use Rattle.osl_interp.specs.declared.stop.LayerStop.{LayerStop}
 use Rattle.osl_interp.specs.declared.stop.LayerStop.TheVariants.{Done, Spent, Needs}
 
 -- ---- what is known of the inputs

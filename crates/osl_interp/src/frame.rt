@@ -1,21 +1,6 @@
 //! The ranges that a run is in.
 
-/// The ops from `start` up to `end`.
-#[derive(Clone, Copy, Debug, PartialEq, Eq)]
-pub struct Span {
-    pub start: u32,
-    pub end: u32,
-}
-
-/// A loop: the symbol of its condition, and the ranges of the condition, of the body and of the step. What
-/// follows the loop begins where the step's range ends.
-#[derive(Clone, Copy, Debug, PartialEq, Eq)]
-pub struct LoopOp {
-    pub condition: u32,
-    pub test: Span,
-    pub body: Span,
-    pub step: Span,
-}
+use oso_step::{LoopOp, Span};
 
 /// What goes on at the end of a range.
 #[derive(Clone, Copy, Debug, PartialEq, Eq)]

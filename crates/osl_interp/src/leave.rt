@@ -5,13 +5,14 @@ ghost use Rattle.osl_interp.specs.Advances.{Advances, StopDone, IsLast, no_op};
 ghost use Rattle.osl_interp.specs.Meaning.{configuration};
 ghost use Rattle.osl_interp.specs.Ready.{Ready};
 
-use crate::frame::{Frame, LoopOp, Mode, Span};
+use crate::frame::{Frame, Mode};
 use crate::known::{Met, first_met, is_run};
 use crate::machine::Machine;
 use crate::ops::{enter, is_true};
 use crate::stop::LayerStop;
 use osl_value::Memory;
 use oso_code::Section;
+use oso_step::{LoopOp, Span};
 
 /// The innermost frame.
 fn innermost(frames: &Vec<Frame>) -> Option<Frame>

@@ -8,7 +8,6 @@
 //! `specs/View.antt` ties it to what contracts see.
 #![tactic(auto)]
 
-mod decode;
 mod frame;
 mod inputs;
 mod known;

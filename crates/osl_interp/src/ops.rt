@@ -8,18 +8,18 @@ ghost use Rattle.oso_code.specs.Ranges.{steps_of};
 ghost use Rattle.oso_code.specs.Run.{is_so};
 ghost use Rattle.oso_code.specs.Steps.{Compute, Branch, Loop as LoopStep, Call, Leave};
 ghost use Rattle.osl_interp.specs.Advances.{StopDone, one_op};
-ghost use Rattle.osl_interp.specs.Decoded.{seen_span, seen_way, seen_step};
+ghost use Rattle.oso_step.specs.Decoded.{seen_span, seen_way, seen_step};
 ghost use Rattle.osl_interp.specs.Meaning.{configuration};
 ghost use Rattle.osl_interp.specs.Ready.{Ready};
 
-use crate::decode::{Step, Way, decode};
-use crate::frame::{Frame, LoopOp, Mode, Span};
+use crate::frame::{Frame, Mode};
 use crate::known::{Met, first_met};
 use crate::machine::Machine;
 use crate::stop::LayerStop;
 use bumpalo::Bump;
 use osl_apply::{Slot, execute};
 use osl_value::{Memory, OpName};
+use oso_step::{LoopOp, Span, Step, Way, decode};
 
 /// Whether a condition holds: it is an int that is not zero.
 pub fn is_true(slot: &Slot<'_>) -> bool

@@ -1,7 +1,7 @@
 use Rattle.std.proofs.Common.{◌∷◌, [], refl, sym, ap, ◌∙◌}
 use Rattle.oso_code.specs.Run.{is_so}
 use Rattle.osl_interp.specs.Advances.{one_op}
-use Rattle.osl_interp.specs.Decoded.{seen_span}
+use Rattle.oso_step.specs.Decoded.{seen_span}
 use Rattle.osl_interp.specs.Known.{met}
 use Rattle.osl_interp.specs.Meaning.{configuration}
 use Rattle.osl_interp.proofs.Acting.{branches, read_missing, read_asks, branch_taken, condition_int}

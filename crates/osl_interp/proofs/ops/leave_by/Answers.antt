@@ -1,6 +1,6 @@
 use Rattle.std.proofs.Common.{Some, refl, ap, ◌∙◌}
 use Rattle.oso_code.specs.Steps as S
-use Rattle.osl_interp.specs.Decoded.{seen_way}
+use Rattle.oso_step.specs.Decoded.{seen_way}
 use Rattle.osl_interp.specs.Meaning.{configuration}
 use Rattle.osl_interp.specs.declared.frame.Mode.TheVariants as M
 use Rattle.osl_interp.proofs.Acting.{mode_left, exit_left}

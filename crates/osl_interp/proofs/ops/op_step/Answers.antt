@@ -1,6 +1,6 @@
 use Rattle.std.proofs.Common.{sym, ap, ◌∙◌}
 use Rattle.oso_code.specs.Steps as S
-use Rattle.osl_interp.specs.Decoded.{seen_span, seen_step}
+use Rattle.oso_step.specs.Decoded.{seen_span, seen_step}
 use Rattle.osl_interp.proofs.Acting.{step_read, op_there}
 use Rattle.osl_interp.proofs.ops.op_step.Goals as goal
 

@@ -1,4 +1,4 @@
-use Rattle.std.proofs.Common.{sym, ap, ◌∙◌}
+use Rattle.std.proofs.Common.{ap, ◌∙◌}
 use Rattle.osl_value.specs.AnyValue.{argument}
 use Rattle.osl_apply.specs.Operands.{values}
 use Rattle.oso_code.specs.CodeRun.{closure_from}

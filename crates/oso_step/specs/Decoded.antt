@@ -3,11 +3,11 @@ use Rattle.std.specs.Prelude.{List}
 use Rattle.oso_code.specs.declared.symbol.Symbol.{Symbol}
 use Rattle.oso_code.specs.Ops.{type_at}
 use Rattle.oso_code.specs.Steps as S
-use Rattle.osl_interp.specs.declared.frame.Span.{Span}
-use Rattle.osl_interp.specs.declared.decode.Way.{Way}
-use Rattle.osl_interp.specs.declared.decode.Way.TheVariants as W
-use Rattle.osl_interp.specs.declared.decode.Step.{Step}
-use Rattle.osl_interp.specs.declared.decode.Step.TheVariants as D
+use Rattle.oso_step.specs.declared.step.Span.{Span}
+use Rattle.oso_step.specs.declared.step.Way.{Way}
+use Rattle.oso_step.specs.declared.step.Way.TheVariants as W
+use Rattle.oso_step.specs.declared.step.Step.{Step}
+use Rattle.oso_step.specs.declared.step.Step.TheVariants as D
 
 abbrev pub seen_span : Span → S.Span
 seen_span r = S.span r.start r.end

@@ -4,34 +4,11 @@ ghost use Rattle.std.specs.Prelude.{◌≡◌, ◌<◌, ◌^◌, ◌+◌, ◌∷
 ghost use Rattle.oso_code.specs.Ops.{operands};
 ghost use Rattle.oso_code.specs.Steps.{step_of, branch_step, while_step, for_step, do_step, call_step, compute};
 ghost use Rattle.oso_code.specs.declared.symbol.Symbol.{Symbol};
-ghost use Rattle.osl_interp.specs.Decoded.{seen_step};
+ghost use Rattle.oso_step.specs.Decoded.{seen_step};
 
-use crate::frame::{LoopOp, Span};
+use crate::step::{LoopOp, Span, Step, Way};
 use osl_value::OpName;
 use oso_code::Op;
-
-/// A way out of a range other than its end.
-#[derive(Clone, Copy, Debug, PartialEq, Eq)]
-pub enum Way {
-    Break,
-    Continue,
-    Return,
-    Exit,
-}
-
-/// What an op does, with the ranges that it runs.
-#[derive(Clone, Copy, Debug)]
-pub enum Step<'s> {
-    /// An operation with a value: the symbol that is written, and those that are read.
-    Compute(OpName, u32, &'s [u32]),
-    /// A condition, and the ranges that are run where it holds and where it does not.
-    Branch(u32, Span, Span),
-    /// Whether the condition is tested before the first turn, and the loop.
-    Loop(bool, LoopOp),
-    /// A range that a return leaves.
-    Call(Span),
-    Leave(Way),
-}
 
 /// What the op at a place does.
 #[tactic(auto, unfolding(oso_code::specs::Steps::step_of))]
