@@ -9,3 +9,4 @@ pub mod NodeTypes
 pub mod CallTypes
 pub mod ExpressionTypes
 pub mod InitTypes
+pub mod StatementTypes

@@ -80,7 +80,7 @@ global_fits G.U = refl
 global_fits G.V = refl
 global_fits G.Ci = refl
 
-there_is : (b : Bool) (o : Option Kind) (kind : Kind) → (if b then o else None) ≡ Some kind → o ≡ Some kind
+pub there_is : (b : Bool) (o : Option Kind) (kind : Kind) → (if b then o else None) ≡ Some kind → o ≡ Some kind
 there_is true o kind h = h
 there_is false o kind h = none_is_not kind h
 

@@ -12,6 +12,8 @@ use Rattle.osl_overload.specs.declared.signature.Kind.{Kind}
 use Rattle.osl_overload.specs.declared.signature.Kind.TheVariants.{Value}
 use Rattle.osl_typed.specs.declared.shader.TypedFunction.{TypedFunction}
 use Rattle.osl_typed.specs.declared.shader.TypedStructure.{TypedStructure}
+use Rattle.osl_typed.specs.Ends as ends
+use Rattle.osl_typed.specs.Ends.{StatementEnd}
 use Rattle.osl_typed.specs.Expressions.{Calls, Called, Came, Left, Lost}
 use Rattle.osl_typed.specs.Frames.{leaves_of}
 use Rattle.osl_typed.specs.Parts.{Frame}
@@ -48,6 +50,15 @@ abbrev pub EndsTyped : {A : Type 0} → List Ty → (A → Type 0) → Expressio
 EndsTyped types Q (Gives a s) = Q a × IsTypedState types s
 EndsTyped types Q (Exits s) = IsTypedState types s
 EndsTyped types Q (Spent s) = IsTypedState types s
+
+-- and a statement, which returns values of its function's kind
+abbrev pub StatementEndsTyped : List TypedStructure → List Ty → Kind → StatementEnd → Type 0
+StatementEndsTyped structures types result (ends.Next s) = IsTypedState types s
+StatementEndsTyped structures types result (ends.Breaks s) = IsTypedState types s
+StatementEndsTyped structures types result (ends.Continues s) = IsTypedState types s
+StatementEndsTyped structures types result (ends.Returns v s) = IsOfKind structures result v × IsTypedState types s
+StatementEndsTyped structures types result (ends.Exits s) = IsTypedState types s
+StatementEndsTyped structures types result (ends.Spent s) = IsTypedState types s
 
 -- a row of types lies among others from a place on
 pub record LiesIn (types : List Ty) (from : ℕ) (row : List Ty) : Type 0 where
