@@ -1,0 +1,2 @@
+mod LongestWords
+mod Weights
