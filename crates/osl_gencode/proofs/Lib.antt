@@ -56,3 +56,5 @@ pub mod SizeRanges
 pub mod SizeCalls
 pub mod FittingOps
 pub mod RangeDepth
+pub mod JumpsFit
+pub mod ValidCode
