@@ -4,7 +4,7 @@ use Rattle.std.specs.Prelude.{slice_get, slice_set, if◌then◌else◌}
 use Rattle.std.proofs.Math.Seq.{map-set_same}
 use Rattle.std.proofs.lemmas.Option.{slice_get_within, slice_get_read}
 use Rattle.std.proofs.lemmas.Bool.{cases_lt, lt-ltb, ltb-true}
-use Rattle.osl_value.specs.AnyValue.{AnyValue, argument, zero_value}
+use Rattle.osl_value.specs.AnyValue.{AnyValue, argument, type_of, zero_value}
 use Rattle.osl_apply.specs.declared.slot.Kind.{Kind}
 use Rattle.osl_apply.specs.declared.slot.Slot.{Slot}
 use Rattle.osl_apply.specs.Slots.{seen, is_kept}
@@ -128,6 +128,10 @@ module _ (code : Raw) (known : List Known) (slots : List Slot) (laid : IsLaid co
   -- the slot that is read
   pub output_kept : (x : Slot) → x ≡ get_or slots p x → is_kept x ≡ true
   output_kept x is = never_small code.symbols slots p out.0 x kept out.1 out.2 output_within is
+
+  -- it has the symbol's type
+  pub output_typed : (v : AnyValue) → v ≡ argument (values slots) p → type_of v ≡ type_at code.symbols p
+  output_typed v is = ap type_of is ∙ laid.types p (slice_get_within code.symbols p out.0 out.1)
 
   pub output_is : (x y : Slot) → x ≡ get_or slots p x → x ≡ y → argument (values slots) p ≡ seen y
   output_is x y is same = held_is slots p x output_within is ∙ ap seen same

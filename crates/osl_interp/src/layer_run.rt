@@ -213,7 +213,8 @@ impl<'a> LayerRun<'a> {
     pub fn output(&self, param: u32) -> OutRef<'_, 'a>
         requires done { self.now.status ≡ Status.Stopped LayerStop.Done }
         requires output { IsOutput self.now.code param }
-        ensures { slice_get (outputs_of self.now) param ≡ Some (Some (seen_output result)) }
+        ensures value { slice_get (outputs_of self.now) param ≡ Some (Some (seen_output result)) }
+        ensures typed { type_of (seen_output result) ≡ type_at self.now.code.symbols param }
     {
         match &self.machine.slots[param as usize] {
             Slot::Whole(value) => OutRef::Value(value),
