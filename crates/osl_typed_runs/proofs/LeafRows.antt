@@ -57,6 +57,20 @@ lies_placed leaves (x ∷ xs) (suc k) kind h = record {
       ap (slice_get (leaves x ++ flat_map leaves xs)) e ∙ get_right (leaves x) (flat_map leaves xs) (length before + j) ∙ (lies_placed leaves xs k kind h).each j ty at;
 }
 
+-- a row has two rows one after the other
+pub lies_first : (a b : List Ty) → LiesIn (a ++ b) 0 a
+lies_first a b = record { each = λ j ty at. let e : 0 + j ≡ j = omega arith in ap (slice_get (a ++ b)) e ∙ get_left a b j ty at }
+
+pub lies_before : (types a b : List Ty) (n : ℕ) → LiesIn types n (a ++ b) → LiesIn types n a
+lies_before types a b n lies = record { each = λ j ty at. lies.each j ty (get_left a b j ty at) }
+
+pub lies_after : (types a b : List Ty) (n : ℕ) → LiesIn types n (a ++ b) → LiesIn types (n + length a) b
+lies_after types a b n lies = record {
+  each = λ j ty at.
+      let e : (n + length a) + j ≡ n + (length a + j) = omega arith in
+      ap (slice_get types) e ∙ lies.each (length a + j) ty (get_right a b j ∙ at);
+}
+
 -- ---- structures
 
 module _ (structures : List TypedStructure) where

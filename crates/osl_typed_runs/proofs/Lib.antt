@@ -10,3 +10,4 @@ pub mod CallTypes
 pub mod ExpressionTypes
 pub mod InitTypes
 pub mod StatementTypes
+pub mod FunctionTypes
