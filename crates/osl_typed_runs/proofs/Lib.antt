@@ -11,3 +11,4 @@ pub mod ExpressionTypes
 pub mod InitTypes
 pub mod StatementTypes
 pub mod FunctionTypes
+pub mod LayerTypes
