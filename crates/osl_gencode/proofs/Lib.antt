@@ -56,5 +56,6 @@ pub mod SizeRanges
 pub mod SizeCalls
 pub mod FittingOps
 pub mod RangeDepth
+pub mod OwnSymbols
 pub mod JumpsFit
 pub mod ValidCode

@@ -8,3 +8,4 @@ pub mod CallCodes
 pub mod StandsFor
 pub mod Sizes
 pub mod Validity
+pub mod OwnNames
