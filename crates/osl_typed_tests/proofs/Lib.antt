@@ -1,2 +1,3 @@
 mod LongestWords
 mod Weights
+mod Heights
