@@ -31,16 +31,16 @@ texts = refl
 slots : map (λ of. slot_count (only of)) bases ≡ (1 ∷ 1 ∷ 3 ∷ 3 ∷ 3 ∷ 3 ∷ 16 ∷ 32 ∷ 1 ∷ [])
 slots = refl
 
-numbers_of_five : map (λ of. number_count (row 5 of)) bases ≡ (5 ∷ 5 ∷ 15 ∷ 15 ∷ 15 ∷ 15 ∷ 80 ∷ 0 ∷ 0 ∷ [])
+numbers_of_five : map (λ b. number_count (row 5 b)) bases ≡ (5 ∷ 5 ∷ 15 ∷ 15 ∷ 15 ∷ 15 ∷ 80 ∷ 0 ∷ 0 ∷ [])
 numbers_of_five = refl
 
-texts_of_five : map (λ of. text_count (row 5 of)) bases ≡ (0 ∷ 0 ∷ 0 ∷ 0 ∷ 0 ∷ 0 ∷ 0 ∷ 5 ∷ 0 ∷ [])
+texts_of_five : map (λ b. text_count (row 5 b)) bases ≡ (0 ∷ 0 ∷ 0 ∷ 0 ∷ 0 ∷ 0 ∷ 0 ∷ 5 ∷ 0 ∷ [])
 texts_of_five = refl
 
-slots_of_five : map (λ of. slot_count (row 5 of)) bases ≡ (5 ∷ 5 ∷ 15 ∷ 15 ∷ 15 ∷ 15 ∷ 80 ∷ 160 ∷ 5 ∷ [])
+slots_of_five : map (λ b. slot_count (row 5 b)) bases ≡ (5 ∷ 5 ∷ 15 ∷ 15 ∷ 15 ∷ 15 ∷ 80 ∷ 160 ∷ 5 ∷ [])
 slots_of_five = refl
 
-slots_of_one : map (λ of. slot_count (row 1 of)) bases ≡ map (λ of. slot_count (only of)) bases
+slots_of_one : map (λ b. slot_count (row 1 b)) bases ≡ map (λ of. slot_count (only of)) bases
 slots_of_one = refl
 
 longest : (longest_text ∷ longest_array ∷ []) ≡ (512 ∷ 1024 ∷ [])
@@ -80,7 +80,7 @@ written_color : apply op.AAssign (row 2 base.Color) (colors ∷ an_int (pos 0) �
 unfolding apply
 written_color = refl
 
-lengths : map (λ of. apply op.ArrayLength int (zero_value (row 7 of) ∷ [])) (base.Int ∷ base.Str ∷ base.Matrix ∷ [])
+lengths : map (λ b. apply op.ArrayLength int (zero_value (row 7 b) ∷ [])) (base.Int ∷ base.Str ∷ base.Matrix ∷ [])
     ≡ (an_int (pos 7) ∷ an_int (pos 7) ∷ an_int (pos 7) ∷ [])
 unfolding apply
 lengths = refl
