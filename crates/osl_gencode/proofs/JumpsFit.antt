@@ -16,8 +16,9 @@ use Rattle.oso_code.specs.Steps.{Step, step_of, named_step, branch_step, while_s
 use Rattle.oso_code.proofs.Decoding.{WithOne, WithTwo, WithThree, one, two, three, with_one, with_two, with_three, step_at, after_reach}
 use Rattle.oso_code.proofs.Members.{both_and}
 use Rattle.oso_code.proofs.Nested.{op_facts}
-use Rattle.osl_gencode.proofs.LoopsAround.{Leaves, leaves_fit}
+use Rattle.osl_gencode.proofs.LoopsAround.{leaves_fit}
 use Rattle.osl_gencode.proofs.NestedRanges.{around_fits}
+use Rattle.osl_gencode.specs.Pieces.{Leaves}
 
 -- ---- jumps ascend
 

@@ -59,3 +59,4 @@ pub mod RangeDepth
 pub mod OwnSymbols
 pub mod JumpsFit
 pub mod ValidCode
+pub mod PieceLaws

@@ -1,5 +1,5 @@
 -- A `break` and a `continue` have their loop: the innermost body around each is a loop's.
-use Rattle.std.proofs.Common.{◌≡◌, ℕ, zero, suc, ◌+◌, ◌<◌, ◌≤◌, ◌⊎◌, inl, inr, ⊎_elim, List, [], ◌∷◌, ◌++◌, Option, Some, Bool, true, false, refl, sym, ap, ◌∙◌, subst, arith}
+use Rattle.std.proofs.Common.{◌≡◌, ℕ, zero, suc, ◌+◌, ◌<◌, ◌≤◌, inl, inr, ⊎_elim, List, [], ◌∷◌, ◌++◌, Option, Some, Bool, true, false, refl, sym, ap, ◌∙◌, subst, arith}
 use Rattle.std.specs.Prelude.{slice_get, take, filter, flat_map, reverse, nat_le, nat_lt, if◌then◌else◌}
 use Rattle.std.proofs.lemmas.List.{reverse-append}
 use Rattle.std.proofs.lemmas.Bool.{cases_lt, and_parts, and_from, le-leb, ltb-true, lt-ltb}
@@ -8,35 +8,7 @@ use Rattle.oso_code.specs.declared.checks.role.Role.TheVariants.{LoopBody, CallB
 use Rattle.oso_code.specs.Nesting.{after, IsClosed}
 use Rattle.oso_code.specs.Ranges.{Ranged, ranges_of, contains, around, in_loop_body, in_body, leaving_fits}
 use Rattle.oso_code.specs.Steps.{Span, Step, Compute, Branch, Loop, Call, Leave, Break, Continue, Return, Exit}
-
--- ---- one place
-
--- the op at j is no call whose range holds k
-abbrev pub IsNoCall : ℕ → Step → Type 0
-IsNoCall k (Call body) = body.end ≤ k
-IsNoCall k (Compute name ty target sources) = Unit {0}
-IsNoCall k (Branch c holds fails) = Unit {0}
-IsNoCall k (Loop tested c test body step) = Unit {0}
-IsNoCall k (Leave way) = Unit {0}
-
--- no op from i up to k is a call whose range holds k
-pub record NoCalls (steps : List Step) (i k : ℕ) : Type 0 where
-  pub each : (j : ℕ) (step : Step) → i ≤ j → j < k → slice_get steps j ≡ Some step → IsNoCall k step
-
--- k is in the body of the loop at `at`, which is not before i, with no call between
-pub record HasLoop (steps : List Step) (i k : ℕ) : Type 0 where
-  pub at : ℕ
-  pub later : i ≤ at
-  pub before : at < k
-  pub tested : Bool
-  pub condition : ℕ
-  pub test : Span
-  pub body : Span
-  pub step : Span
-  pub here : slice_get steps at ≡ Some (Loop tested condition test body step)
-  pub starts : body.start ≤ k
-  pub ends : k < body.end
-  pub no_calls : NoCalls steps (at + 1) k
+use Rattle.osl_gencode.specs.Pieces.{IsNoCall, NoCalls, HasLoop, NeedsLoop, MayLeave, Leaves}
 
 -- ---- the ranges around it
 
@@ -109,17 +81,6 @@ loop_around steps i k step at h = from_loop k (h.before) (omega arith)
 
 -- ---- parts
 
--- an op that needs a loop around it
-abbrev pub NeedsLoop : Step → Type 0 → Type 0
-NeedsLoop (Leave Break) T = T
-NeedsLoop (Leave Continue) T = T
-NeedsLoop (Leave Return) T = Unit {0}
-NeedsLoop (Leave Exit) T = Unit {0}
-NeedsLoop (Compute name ty target sources) T = Unit {0}
-NeedsLoop (Branch c holds fails) T = Unit {0}
-NeedsLoop (Loop tested c test body step) T = Unit {0}
-NeedsLoop (Call body) T = Unit {0}
-
 needs_more : (step : Step) (S T : Type 0) → (S → T) → NeedsLoop step S → NeedsLoop step T
 needs_more (Leave Break) S T f n = f n
 needs_more (Leave Continue) S T f n = f n
@@ -129,13 +90,6 @@ needs_more (Compute name ty target sources) S T f n = tt
 needs_more (Branch c holds fails) S T f n = tt
 needs_more (Loop tested c test body step) S T f n = tt
 needs_more (Call body) S T f n = tt
-
--- Each `break` and `continue` from i to m has a loop of the part, or may be meant for one around the part, with no call between.
-abbrev pub MayLeave : List Step → (inside : Bool) → (i k : ℕ) → Type 0
-MayLeave steps inside i k = HasLoop steps i k ⊎ ((inside ≡ true) × NoCalls steps i k)
-
-pub record Leaves (steps : List Step) (inside : Bool) (i m : ℕ) : Type 0 where
-  pub each : (k : ℕ) (step : Step) → i ≤ k → k < m → slice_get steps k ≡ Some step → NeedsLoop step (MayLeave steps inside i k)
 
 pub leaves_none : (steps : List Step) (inside : Bool) (i : ℕ) → Leaves steps inside i i
 leaves_none steps inside i = record { each = λ k step a b at. absurd (omega (arith, a, b)) }
@@ -197,6 +151,19 @@ leaves_loop steps inside tested i c a e test body step here le closed first seco
   where
     caught : (k : ℕ) → i + 1 ≤ k → body.start ≤ k → k < body.end → NoCalls steps (i + 1) k → HasLoop steps i k
     caught k g l h calls = record { at = i; later = omega arith; before = omega (arith, g); tested = tested; condition = c; test = test; body = body; step = step; here = here; starts = l; ends = h; no_calls = calls }
+
+-- what needs no loop around it may have one
+pub leaves_inside : (steps : List Step) (inside : Bool) (i m : ℕ) → Leaves steps false i m → Leaves steps inside i m
+leaves_inside steps inside i m s = record {
+  each = λ k step a b at. needs_more step (MayLeave steps false i k) (MayLeave steps inside i k) (λ may. ⊎_elim (λ h. inl h) (λ o. absurd (let f = o.0 in cc f)) may) (s.each k step a b at);
+}
+
+-- a part that needs no loop around it, after another
+pub leaves_past : (steps : List Step) (inside : Bool) (i m e : ℕ) → i ≤ m → Leaves steps inside i m → Leaves steps false m e → Leaves steps inside i e
+leaves_past steps inside i m e le s t = record {
+  each = λ k step a b at. ⊎_elim (λ (l : k < m). s.each k step a l at) (λ (g : m ≤ k).
+      needs_more step (MayLeave steps false m k) (MayLeave steps inside i k) (λ may. ⊎_elim (λ h. inl (earlier steps i m k le h)) (λ o. absurd (let f = o.0 in cc f)) may) (t.each k step g b at)) (cases_lt k m);
+}
 
 -- in the whole, where no loop is around, each has its loop
 pub leaves_fit : (steps : List Step) (m k : ℕ) (step : Step) → k < m → slice_get steps k ≡ Some step → Leaves steps false 0 m → leaving_fits (around steps k) step ≡ true

@@ -8,11 +8,7 @@ use Rattle.oso_code.specs.Nesting.{after, IsClosed, Nests}
 use Rattle.oso_code.specs.Ranges.{Ranged, ranges_of, contains, around}
 use Rattle.oso_code.specs.Steps.{Step, Compute, Branch, Loop, Call, Leave, span}
 use Rattle.osl_typed.specs.Expressions.{holds}
-
--- the ops from i to m reach no further than m, and their ranges lie in each other
-pub record Shaped (steps : List Step) (i m : ℕ) : Type 0 where
-  pub closed : IsClosed steps i m
-  pub nests : (k : ℕ) (step : Step) → i ≤ k → k < m → slice_get steps k ≡ Some step → Nests steps k step
+use Rattle.osl_gencode.specs.Pieces.{Shaped}
 
 -- ---- parts
 
@@ -46,13 +42,17 @@ shaped_branch steps i c a e here l1 l2 s t =
       record { later = omega (arith, l1); ordered = l2; within = omega arith; closed = t.closed },
     ) (shaped_on steps (i + 1) a e l2 s t)
 
+-- a loop that tests first: its condition, its body and its step
+pub shaped_for : (steps : List Step) (i c a m e : ℕ) → slice_get steps i ≡ Some (Loop true c (span (i + 1) a) (span a m) (span m e)) → i + 1 ≤ a → a ≤ m → m ≤ e → Shaped steps (i + 1) a → Shaped steps a m → Shaped steps m e → Shaped steps i e
+shaped_for steps i c a m e here l1 l2 l3 s t u =
+    shaped_op steps i e (Loop true c (span (i + 1) a) (span a m) (span m e)) here (omega arith) (
+      record { later = omega arith; ordered = l1; within = omega (arith, l2, l3); closed = s.closed },
+      record { later = omega (arith, l1); ordered = l2; within = l3; closed = t.closed },
+      record { later = omega (arith, l1, l2); ordered = l3; within = omega arith; closed = u.closed },
+    ) (shaped_on steps (i + 1) a e (omega (arith, l2, l3)) s (shaped_on steps a m e l3 t u))
+
 pub shaped_loop : (steps : List Step) (i c a e : ℕ) → slice_get steps i ≡ Some (Loop true c (span (i + 1) a) (span a e) (span e e)) → i + 1 ≤ a → a ≤ e → Shaped steps (i + 1) a → Shaped steps a e → Shaped steps i e
-shaped_loop steps i c a e here l1 l2 s t =
-    shaped_op steps i e (Loop true c (span (i + 1) a) (span a e) (span e e)) here (omega arith) (
-      record { later = omega arith; ordered = l1; within = l2; closed = s.closed },
-      record { later = omega (arith, l1); ordered = l2; within = omega arith; closed = t.closed },
-      record { later = omega (arith, l1, l2); ordered = omega arith; within = omega arith; closed = (shaped_none steps e).closed },
-    ) (shaped_on steps (i + 1) a e l2 s t)
+shaped_loop steps i c a e here l1 l2 s t = shaped_for steps i c a e e here l1 l2 (omega arith) s t (shaped_none steps e)
 
 -- a loop that tests last: its body comes first
 pub shaped_do : (steps : List Step) (i c a e : ℕ) → slice_get steps i ≡ Some (Loop false c (span a e) (span (i + 1) a) (span e e)) → i + 1 ≤ a → a ≤ e → Shaped steps (i + 1) a → Shaped steps a e → Shaped steps i e

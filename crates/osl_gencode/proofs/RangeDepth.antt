@@ -7,18 +7,10 @@ use Rattle.oso_code.specs.Ranges.{Ranged, ranges_of, ranged, contains, around}
 use Rattle.oso_code.specs.declared.checks.role.Role.TheVariants.{LoopBody, CallBody, Part}
 use Rattle.oso_code.specs.Steps.{Step, Compute, Branch, Loop, Call, Leave, span}
 use Rattle.oso_code.specs.Valid.{nests_within, most_nested}
-use Rattle.osl_gencode.proofs.NestedRanges.{Shaped}
 use Rattle.osl_gencode.proofs.LoopsAround.{ranges_more, there}
+use Rattle.osl_gencode.specs.Pieces.{Shaped, holding, depth_at, own_depth, Deep}
 
 -- ---- how many ranges are around a place
-
--- of these ranges, how many have the place in them
-abbrev pub holding : ℕ → List Ranged → ℕ
-holding k rs = length (filter (contains k) rs)
-
--- of the ranges of the first n ops
-abbrev pub depth_at : List Step → (k n : ℕ) → ℕ
-depth_at steps k n = holding k (flat_map ranges_of (reverse (take n steps)))
 
 holding_append : (k : ℕ) (rs qs : List Ranged) → holding k (rs ++ qs) ≡ holding k rs + holding k qs
 holding_append k [] qs = omega arith
@@ -98,18 +90,6 @@ not_around steps i m k at_k here le h shaped = up_to m le (omega arith)
         ∙ (let r = up_to n (omega (arith, l)) (omega (arith, high)) in omega (arith, r))) (λ (g : suc n ≤ i). ap (depth_at steps k) (let e : suc n ≡ i = omega (arith, low, g) in e)) (cases_lt i (suc n))
 
 -- ---- parts
-
--- an op with ranges is one deeper
-abbrev pub own_depth : Step → ℕ
-own_depth (Compute name ty target sources) = 0
-own_depth (Branch c holds fails) = 1
-own_depth (Loop tested c test body step) = 1
-own_depth (Call body) = 1
-own_depth (Leave way) = 0
-
--- within the part from i to m ranges lie at most d deep
-pub record Deep (steps : List Step) (i m d : ℕ) : Type 0 where
-  pub each : (k : ℕ) (step : Step) → i ≤ k → k < m → slice_get steps k ≡ Some step → depth_at steps k k + own_depth step ≤ depth_at steps k i + d
 
 pub deep_none : (steps : List Step) (i d : ℕ) → Deep steps i i d
 deep_none steps i d = record { each = λ k step a b at. absurd (omega (arith, a, b)) }

@@ -19,9 +19,10 @@ use Rattle.oso_code.proofs.Fitting.{none_unless}
 use Rattle.oso_code.proofs.Members.{and_both, both_and}
 use Rattle.osl_gencode.proofs.Growing.{get_some}
 use Rattle.osl_gencode.proofs.JumpsFit.{IsPlaced, jumps_valid}
-use Rattle.osl_gencode.proofs.LoopsAround.{Leaves, leaves_none, leaves_on}
-use Rattle.osl_gencode.proofs.NestedRanges.{Shaped, shaped_none, shaped_on}
-use Rattle.osl_gencode.proofs.RangeDepth.{Deep, deep_none, deep_on, deep_fits}
+use Rattle.osl_gencode.proofs.LoopsAround.{leaves_none, leaves_on}
+use Rattle.osl_gencode.proofs.NestedRanges.{shaped_none, shaped_on}
+use Rattle.osl_gencode.proofs.RangeDepth.{deep_none, deep_on, deep_fits}
+use Rattle.osl_gencode.specs.Pieces.{Shaped, Leaves, Deep}
 
 -- ---- sections
 

@@ -8,4 +8,5 @@ pub mod CallCodes
 pub mod StandsFor
 pub mod Sizes
 pub mod Validity
+pub mod Pieces
 pub mod OwnNames
