@@ -23,9 +23,9 @@ use Rattle.osl_welltyped.specs.WellTyped.{kinds_of_formals, kinds_declared, rule
 use Rattle.osl_welltyped.specs.StatementsFit.{declared_in}
 use Rattle.osl_welltyped.proofs.Steps.{none_is_not}
 use Rattle.oso_code.proofs.TypedStart.{zero_typed}
-use Rattle.osl_typed_runs.specs.Typed.{AreOfTypes, HaveTypes, AreGlobals, IsTypedState, StatementEndsTyped, LiesIn, types_by, IsTypedFrame, AreArguments, CallEndsTyped, CallsKeep}
+use Rattle.osl_typed_runs.specs.Typed.{AreOfTypes, LeavesHaveTypes, GlobalsHaveTypes, IsTypedState, StatementEndsTyped, types_by, IsTypedFrame, AreArguments, CallEndsTyped, CallsKeep}
 use Rattle.osl_typed_runs.proofs.LeafKinds.{all_get, frame_all, result_all, zero_row}
-use Rattle.osl_typed_runs.proofs.LeafRows.{lies_first, lies_before, lies_after}
+use Rattle.osl_typed_runs.proofs.LeafRows.{LiesIn, lies_first, lies_before, lies_after}
 use Rattle.osl_typed_runs.proofs.LeafTypes.{no_values, both_rows, row_held, row_written}
 use Rattle.osl_typed_runs.proofs.StatementTypes.{statements_keep}
 
@@ -41,7 +41,7 @@ arguments_row structures (formal ∷ formals) [] are = absurd are
 arguments_row structures (formal ∷ formals) (arg ∷ args) are =
     both_rows (leaves_of structures formal.kind) (formal_row structures formals) arg (flat_map (λ arg. arg) args) are.0 (arguments_row structures formals args are.1)
 
-finals_typed : (structures : List TypedStructure) (types : List Ty) (vars : Environment) (at : ℕ) (formals : List Formal) → HaveTypes types vars → LiesIn types at (formal_row structures formals) → AreArguments structures formals (finals_from structures at formals vars)
+finals_typed : (structures : List TypedStructure) (types : List Ty) (vars : Environment) (at : ℕ) (formals : List Formal) → LeavesHaveTypes types vars → LiesIn types at (formal_row structures formals) → AreArguments structures formals (finals_from structures at formals vars)
 unfolding finals_from
 finals_typed structures types vars at [] have lies = tt
 finals_typed structures types vars at (formal ∷ formals) have lies =
@@ -51,10 +51,10 @@ finals_typed structures types vars at (formal ∷ formals) have lies =
 
 -- ---- the start
 
-pub zeros_typed : (types : List Ty) → list_all is_type types ≡ true → HaveTypes types (zero_leaves types)
+pub zeros_typed : (types : List Ty) → list_all is_type types ≡ true → LeavesHaveTypes types (zero_leaves types)
 zeros_typed types fits = record { each = λ k ty is. subst (λ o. IsOfType ty (elim o [ None ↦ Parts [] | Some t ↦ zero_value t ])) (sym is) (zero_typed ty (all_get is_type types k ty fits is)) }
 
-entered_typed : (types row : List Ty) (args : List (List AnyValue)) (globals : Globals) (turns : ℕ) (reads : Reads) → list_all is_type types ≡ true → LiesIn types 0 row → AreOfTypes row (flat_map (λ arg. arg) args) → AreGlobals globals → IsTypedState types (entered types args globals turns reads)
+entered_typed : (types row : List Ty) (args : List (List AnyValue)) (globals : Globals) (turns : ℕ) (reads : Reads) → list_all is_type types ≡ true → LiesIn types 0 row → AreOfTypes row (flat_map (λ arg. arg) args) → GlobalsHaveTypes globals → IsTypedState types (entered types args globals turns reads)
 entered_typed types row args globals turns reads fits lies are typed = record {
   vars = row_written types row (flat_map (λ arg. arg) args) (zero_leaves types) 0 (zeros_typed types fits) are lies;
   globals = typed;
@@ -73,7 +73,7 @@ end_typed structures types f (Spent s) zeros lies typed = tt
 
 -- ---- earlier functions
 
-never_from : (v : AnyValue) → Default ≡ From (Some v) → ⊥
+pub never_from : (v : AnyValue) → Default ≡ From (Some v) → ⊥
 never_from v h = cc h
 
 earlier : {X : Type 0} (n : ℕ) (xs : List X) (k : ℕ) (x : X) → slice_get (take (suc n) xs) k ≡ Some x → k ≢ n → slice_get (take n xs) k ≡ Some x
@@ -104,7 +104,7 @@ module _ (t : TypedShader) (fit : FitsRules t) (good : (n : ℕ) (f : TypedFunct
         let split = ap leaves fun.frame.kinds ∙ flat_map-append (leaves_of t.structures) (kinds_of_formals f.formals) (kinds_declared (declared_in f.body)) in
         subst (λ types. LiesIn types 0 (formal_row t.structures f.formals)) (sym split) (lies_first (formal_row t.structures f.formals) (leaves (kinds_declared (declared_in f.body))))
 
-    run_typed : (calls : Calls) (args : List (List AnyValue)) (globals : Globals) (turns : ℕ) (reads : Reads) → CallsKeep t.structures (take n t.functions) calls → AreArguments t.structures f.formals args → AreGlobals globals
+    run_typed : (calls : Calls) (args : List (List AnyValue)) (globals : Globals) (turns : ℕ) (reads : Reads) → CallsKeep t.structures (take n t.functions) calls → AreArguments t.structures f.formals args → GlobalsHaveTypes globals
         → CallEndsTyped t.structures f (run_function t.structures calls (Some f) (entered (frame_types t.structures (Some f)) args globals turns reads))
     run_typed calls args globals turns reads keep are typed =
         let types = types_by (rules_of_function t n f) in
@@ -118,7 +118,7 @@ module _ (t : TypedShader) (fit : FitsRules t) (good : (n : ℕ) (f : TypedFunct
   below_keep zero = record { each = λ k f args globals turns reads is are typed. none_is_not f is }
   below_keep (suc n) = record { each = λ k f args globals turns reads is are typed. by (below_keep n) k f args globals turns reads is are typed (k == n) refl }
     where
-      by : CallsKeep t.structures (take n t.functions) (below t.structures t.functions n) → (k : ℕ) (f : TypedFunction) (args : List (List AnyValue)) (globals : Globals) (turns : ℕ) (reads : Reads) → slice_get (take (suc n) t.functions) k ≡ Some f → AreArguments t.structures f.formals args → AreGlobals globals
+      by : CallsKeep t.structures (take n t.functions) (below t.structures t.functions n) → (k : ℕ) (f : TypedFunction) (args : List (List AnyValue)) (globals : Globals) (turns : ℕ) (reads : Reads) → slice_get (take (suc n) t.functions) k ≡ Some f → AreArguments t.structures f.formals args → GlobalsHaveTypes globals
           → (b : Bool) → (k == n) ≡ b
           → CallEndsTyped t.structures f (if b then run_function t.structures (below t.structures t.functions n) (slice_get t.functions n) (entered (frame_types t.structures (slice_get t.functions n)) args globals turns reads) else below t.structures t.functions n k args globals turns reads)
       by keep k f args globals turns reads is are typed true same =

@@ -31,7 +31,7 @@ use Rattle.osl_welltyped.specs.WellTyped.{as_formal, kinds_of_formals, rules_bel
 use Rattle.osl_welltyped.proofs.Steps.{none_is_not, some_same}
 use Rattle.oso_code.specs.Typed.{OutputFits, OutputsFit, AreResults}
 use Rattle.oso_code.proofs.TypedStart.{zero_typed}
-use Rattle.osl_typed_runs.specs.Sources.{parameter_of, parameters_of}
+use Rattle.osl_typed_runs.specs.Parameters.{parameter_of, parameters_of}
 use Rattle.osl_typed_runs.specs.Typed.{IsOfKind, IsTypedState, StatementEndsTyped, IsTypedFrame, CallsKeep}
 use Rattle.osl_typed_runs.proofs.FunctionTypes.{zeros_typed, below_keep}
 use Rattle.osl_typed_runs.proofs.InitTypes.{begun_typed, variable_written, kind_there}
@@ -112,6 +112,11 @@ module _ (t : TypedShader) (fit : FitsRules t) (good : IsWithin by_fault 0 t) wh
   end_results (Exits s) results typed h = results_typed s results typed h
   end_results (Spent s) results typed h = none_is_not results h
 
+  -- ---- functions
+
+  pub functions_keep : CallsKeep t.structures t.functions (functions_of t)
+  functions_keep = subst (λ fs. CallsKeep t.structures fs (functions_of t)) (take-length t.functions) (below_keep t fit (λ n f is. no_more (body_measured by_fault f.body) (good.functions n f is)) (length t.functions))
+
   module _ (inputs : Inputs) (are : AreInputs (parameters_of t) inputs) where
     -- ---- the frame
 
@@ -119,16 +124,13 @@ module _ (t : TypedShader) (fit : FitsRules t) (good : IsWithin by_fault 0 t) wh
     given k true v lt h = let p = param_there t.params k (ltb-true k (length t.params) lt) in (p.0, (p.1, are.connected k (parameter_of p.0) v (told t k p.0 p.1) h))
     given k false v lt h = absurd (cc h)
 
-    frame_typed : (ready : ℕ) → IsTypedFrame (rules_below t ready) (given_to t.params inputs)
+    pub frame_typed : (ready : ℕ) → IsTypedFrame (rules_below t ready) (given_to t.params inputs)
     frame_typed ready = record {
       structures = fit.structures;
       kinds = fit.frame.fit;
       connected = λ k v h. let p = given k (nat_lt k (length t.params)) v refl h in variable_kind k p.0 p.1.0 ∙ ap (λ ty. Some (Value ty)) (sym p.1.1.type);
       given = λ k v h. (given k (nat_lt k (length t.params)) v refl h).1.1.value;
     }
-
-    functions_keep : CallsKeep t.structures t.functions (functions_of t)
-    functions_keep = subst (λ fs. CallsKeep t.structures fs (functions_of t)) (take-length t.functions) (below_keep t fit (λ n f is. no_more (body_measured by_fault f.body) (good.functions n f is)) (length t.functions))
 
     -- ---- the start
 
@@ -144,7 +146,7 @@ module _ (t : TypedShader) (fit : FitsRules t) (good : IsWithin by_fault 0 t) wh
         by (Fixed v) h = are.fixed k (parameter_of param) v (told t k param p) h
         by Default h = zero_is
 
-    start_typed : GlobalsAreTyped → (point : Point) (budget : ℕ) → IsPoint point → IsTypedState types (start_of t inputs point budget)
+    pub start_typed : GlobalsAreTyped → (point : Point) (budget : ℕ) → IsPoint point → IsTypedState types (start_of t inputs point budget)
     start_typed globals point budget in_range = record {
       vars = record { each = λ k ty is. started k ty (slice_get t.params k) (inputs k) is refl refl };
       globals = record { each = λ g. globals point g in_range };

@@ -9,7 +9,6 @@ use Rattle.osl_overload.specs.declared.signature.Kind.TheVariants.{Value, Struct
 use Rattle.osl_typed.specs.declared.shader.TypedStructure.{TypedStructure}
 use Rattle.osl_typed.specs.Frames.{fields_of, leaves_with, leaves_below, leaves_of, leaves_before, place_of, kind_in}
 use Rattle.osl_welltyped.specs.Kinded.{led_to}
-use Rattle.osl_typed_runs.specs.Typed.{LiesIn}
 use Rattle.osl_welltyped.specs.WellTyped.{field_fits, structures_fit}
 use Rattle.osl_welltyped.proofs.Steps.{none_is_not, some_same}
 
@@ -34,6 +33,10 @@ get_or (x ∷ xs) zero kind h = some_same x kind h
 get_or (x ∷ xs) (suc k) kind h = get_or xs k kind h
 
 -- ---- rows
+
+-- a row of types lies among others from a place on
+pub record LiesIn (types : List Ty) (from : ℕ) (row : List Ty) : Type 0 where
+  pub each : (j : ℕ) (ty : Ty) → slice_get row j ≡ Some ty → slice_get types (from + j) ≡ Some ty
 
 pub lies_on : (a b c : List Ty) (i j : ℕ) → LiesIn a i b → LiesIn b j c → LiesIn a (i + j) c
 lies_on a b c i j ab bc = record { each = λ k ty at. let e : (i + j) + k ≡ i + (j + k) = omega arith in ap (slice_get a) e ∙ ab.each (j + k) ty (bc.each k ty at) }

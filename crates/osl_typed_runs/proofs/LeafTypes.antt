@@ -12,7 +12,8 @@ use Rattle.osl_layer.specs.declared.global.GlobalName.{GlobalName}
 use Rattle.osl_layer.specs.declared.global.GlobalName.TheVariants.{P, N, Ng, I, U, V, Ci}
 use Rattle.osl_typed.specs.State.{Environment, Globals, leaves_at, with_leaves, same_global, with_global}
 use Rattle.osl_welltyped.proofs.Steps.{none_is_not, some_same}
-use Rattle.osl_typed_runs.specs.Typed.{AreOfTypes, HaveTypes, AreGlobals, LiesIn}
+use Rattle.osl_typed_runs.specs.Typed.{AreOfTypes, LeavesHaveTypes, GlobalsHaveTypes}
+use Rattle.osl_typed_runs.proofs.LeafRows.{LiesIn}
 use Rattle.osl_typed_runs.proofs.Values.{as_type}
 
 -- ---- rows of values
@@ -56,7 +57,7 @@ leaves_typed vars at (t ∷ row) h =
     one_more t row (vars at) (leaves_at vars (at + 1) (length row)) (subst (λ z. IsOfType t (vars z)) e (h 0 t refl))
     (leaves_typed vars (at + 1) row (λ k ty is. let q : at + suc k ≡ (at + 1) + k = omega arith in subst (λ z. IsOfType ty (vars z)) q (h (suc k) ty is)))
 
-pub row_held : (types row : List Ty) (vars : Environment) (at : ℕ) → HaveTypes types vars → LiesIn types at row → AreOfTypes row (leaves_at vars at (length row))
+pub row_held : (types row : List Ty) (vars : Environment) (at : ℕ) → LeavesHaveTypes types vars → LiesIn types at row → AreOfTypes row (leaves_at vars at (length row))
 row_held types row vars at have lies = leaves_typed vars at row (λ k ty is. have.each (at + k) ty (lies.each k ty is))
 
 -- a part of a row of values
@@ -85,7 +86,7 @@ part_typed types row vs n are lies =
 
 -- ---- writing
 
-pub row_written : (types row : List Ty) (vs : List AnyValue) (vars : Environment) (at : ℕ) → HaveTypes types vars → AreOfTypes row vs → LiesIn types at row → HaveTypes types (with_leaves at vs vars)
+pub row_written : (types row : List Ty) (vs : List AnyValue) (vars : Environment) (at : ℕ) → LeavesHaveTypes types vars → AreOfTypes row vs → LiesIn types at row → LeavesHaveTypes types (with_leaves at vs vars)
 unfolding with_leaves
 row_written types row [] vars at have are lies = have
 row_written types [] (v ∷ vs) vars at have are lies = let e : type_of v ∷ map type_of vs ≡ [] = are.types in absurd (cc e)
@@ -93,7 +94,7 @@ row_written types (t ∷ row) (v ∷ vs) vars at have are lies =
     let rest = row_written types row vs vars (at + 1) have (other_values t row v vs are) (record { each = λ j ty is. let e : (at + 1) + j ≡ at + suc j = omega arith in ap (slice_get types) e ∙ lies.each (suc j) ty is }) in
     record { each = λ k ty is. by rest k ty is (k == at) refl }
   where
-    by : HaveTypes types (with_leaves (at + 1) vs vars) → (k : ℕ) (ty : Ty) → slice_get types k ≡ Some ty → (b : Bool) → (k == at) ≡ b → IsOfType ty (if b then v else with_leaves (at + 1) vs vars k)
+    by : LeavesHaveTypes types (with_leaves (at + 1) vs vars) → (k : ℕ) (ty : Ty) → slice_get types k ≡ Some ty → (b : Bool) → (k == at) ≡ b → IsOfType ty (if b then v else with_leaves (at + 1) vs vars k)
     by rest k ty is true same =
         let e : at + 0 ≡ at = omega arith in
         as_type t ty v (some_same t ty (sym (lies.each 0 t refl) ∙ ap (slice_get types) (e ∙ sym (eqb-true k at same)) ∙ is)) (first_value t row v vs are)
@@ -109,7 +110,7 @@ same_global-true V V e = refl
 same_global-true Ci Ci e = refl
 same_global-true _ _ e = absurd (cc e)
 
-pub global_written : (g : GlobalName) (v : AnyValue) (globals : Globals) → AreGlobals globals → IsOfType (type_of_global g) v → AreGlobals (with_global g v globals)
+pub global_written : (g : GlobalName) (v : AnyValue) (globals : Globals) → GlobalsHaveTypes globals → IsOfType (type_of_global g) v → GlobalsHaveTypes (with_global g v globals)
 global_written g v globals are is = record { each = λ h. by h (same_global h g) refl }
   where
     by : (h : GlobalName) (b : Bool) → same_global h g ≡ b → IsOfType (type_of_global h) (if b then v else globals h)

@@ -12,3 +12,5 @@ pub mod InitTypes
 pub mod StatementTypes
 pub mod FunctionTypes
 pub mod LayerTypes
+pub mod ConstantValues
+pub mod MetadataTypes

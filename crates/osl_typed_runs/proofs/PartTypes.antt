@@ -23,9 +23,9 @@ use Rattle.osl_typed.specs.Selections.{kind_at, component_count}
 use Rattle.osl_typed.specs.State.{State, ExpressionEnd, Gives, Exits, Spent, leaves_at, then_value}
 use Rattle.osl_welltyped.specs.Kinded.{Rules, led_to, root_kind, is_type}
 use Rattle.osl_welltyped.proofs.Steps.{none_is_not, some_same}
-use Rattle.osl_typed_runs.specs.Typed.{AreOfTypes, IsOfKind, IsTypedState, EndsTyped, LiesIn, frame_by, types_by, IsTypedFrame}
+use Rattle.osl_typed_runs.specs.Typed.{AreOfTypes, IsOfKind, IsTypedState, EndsTyped, frame_by, types_by, IsTypedFrame}
 use Rattle.osl_typed_runs.proofs.LeafKinds.{leaf_fits}
-use Rattle.osl_typed_runs.proofs.LeafRows.{lies_part}
+use Rattle.osl_typed_runs.proofs.LeafRows.{LiesIn, lies_part}
 use Rattle.osl_typed_runs.proofs.LeafTypes.{one_value, first_value, row_held, row_written, global_written}
 use Rattle.osl_typed_runs.proofs.SelectedTypes.{selected_typed, with_selected_typed}
 

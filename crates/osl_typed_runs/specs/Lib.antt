@@ -1,2 +1,3 @@
 pub mod Typed
-pub mod Sources
+pub mod Parameters
+pub mod Laws

@@ -1,5 +1,5 @@
 -- States in which each leaf and each global variable holds a value of its type, in range, and expressions, statements and calls that keep this.
-use Rattle.std.specs.Prelude.{ℕ, ◌≡◌, ◌+◌, List, map, Some, slice_get, IsTrue, [], ◌∷◌}
+use Rattle.std.specs.Prelude.{ℕ, ◌≡◌, List, map, Some, slice_get, IsTrue, [], ◌∷◌}
 use Rattle.std.specs.List.{All, flat_map, list_all}
 use Rattle.osl_value.specs.declared.types.Ty.{Ty}
 use Rattle.osl_value.specs.AnyValue.{AnyValue, type_of}
@@ -35,15 +35,16 @@ IsOfKind structures kind vs = AreOfTypes (leaves_of structures kind) vs
 -- ---- states
 
 -- leaf k holds a value of type k
-pub record HaveTypes (types : List Ty) (vars : Environment) : Type 0 where
+pub record LeavesHaveTypes (types : List Ty) (vars : Environment) : Type 0 where
   pub each : (k : ℕ) (ty : Ty) → slice_get types k ≡ Some ty → IsOfType ty (vars k)
 
-pub record AreGlobals (globals : Globals) : Type 0 where
+-- and each global variable one of its own
+pub record GlobalsHaveTypes (globals : Globals) : Type 0 where
   pub each : (g : GlobalName) → IsOfType (type_of_global g) (globals g)
 
 pub record IsTypedState (types : List Ty) (s : State) : Type 0 where
-  pub vars : HaveTypes types s.vars
-  pub globals : AreGlobals s.globals
+  pub vars : LeavesHaveTypes types s.vars
+  pub globals : GlobalsHaveTypes s.globals
 
 -- an expression ends in such a state, and what it gives is so
 abbrev pub EndsTyped : {A : Type 0} → List Ty → (A → Type 0) → ExpressionEnd A → Type 0
@@ -59,10 +60,6 @@ StatementEndsTyped structures types result (ends.Continues s) = IsTypedState typ
 StatementEndsTyped structures types result (ends.Returns v s) = IsOfKind structures result v × IsTypedState types s
 StatementEndsTyped structures types result (ends.Exits s) = IsTypedState types s
 StatementEndsTyped structures types result (ends.Spent s) = IsTypedState types s
-
--- a row of types lies among others from a place on
-pub record LiesIn (types : List Ty) (from : ℕ) (row : List Ty) : Type 0 where
-  pub each : (j : ℕ) (ty : Ty) → slice_get row j ≡ Some ty → slice_get types (from + j) ≡ Some ty
 
 -- ---- frames
 
@@ -98,5 +95,5 @@ CallEndsTyped structures f (Lost turns reads) = Unit {0}
 
 -- from arguments of their kinds
 pub record CallsKeep (structures : List TypedStructure) (functions : List TypedFunction) (calls : Calls) : Type 0 where
-  pub each : (n : ℕ) (f : TypedFunction) (args : List (List AnyValue)) (globals : Globals) (turns : ℕ) (reads : Reads) → slice_get functions n ≡ Some f → AreArguments structures f.formals args → AreGlobals globals
+  pub each : (n : ℕ) (f : TypedFunction) (args : List (List AnyValue)) (globals : Globals) (turns : ℕ) (reads : Reads) → slice_get functions n ≡ Some f → AreArguments structures f.formals args → GlobalsHaveTypes globals
       → CallEndsTyped structures f (calls n args globals turns reads)
