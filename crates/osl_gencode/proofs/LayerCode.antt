@@ -27,7 +27,7 @@ use Rattle.oso_code.proofs.Decoding.{length_steps, steps_get}
 use Rattle.osl_typed.specs.SourceRun.{source_run}
 use Rattle.oso_code.specs.CodeRun.{code_run, sources_of, start_of, outputs_from, is_ci, closure_from}
 use Rattle.osl_gencode.specs.Relation.{Wired, Related}
-use Rattle.osl_gencode.specs.StandsFor.{parameters_of}
+use Rattle.osl_typed_runs.specs.Parameters.{parameters_of}
 use Rattle.osl_gencode.specs.Growth.{Covers, Extends}
 use Rattle.osl_gencode.specs.Codes.{StmtCode}
 use Rattle.osl_gencode.specs.Bodies.{Body, Room, global_of}

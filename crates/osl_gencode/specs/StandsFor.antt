@@ -2,7 +2,7 @@
 use Rattle.std.specs.Prelude.{ℕ, ◌≡◌, ◌≤◌, Bool, filter, List, length, map}
 use Rattle.osl_value.specs.declared.point.Point.{Point}
 use Rattle.osl_value.specs.declared.types.Ty.{Ty}
-use Rattle.osl_layer.specs.Layer.{Inputs, Parameter, AreInputs}
+use Rattle.osl_layer.specs.Layer.{Inputs, AreInputs}
 use Rattle.osl_typed.specs.declared.shader.TypedShader.{TypedShader}
 use Rattle.osl_typed.specs.declared.shader.TypedParam.{TypedParam}
 use Rattle.osl_typed.specs.declared.shader.TypedDatum.{TypedDatum}
@@ -15,6 +15,7 @@ use Rattle.oso_code.specs.declared.symbol.Symbol.{Symbol}
 use Rattle.oso_code.specs.CodeRun.{is_output, code_run}
 use Rattle.oso_code.specs.Symbols.{is_parameter}
 use Rattle.oso_code.specs.Valid as valid
+use Rattle.osl_typed_runs.specs.Parameters.{parameters_of}
 
 -- ---- parameters and metadata
 
@@ -33,10 +34,6 @@ told_of_param p = record { output = p.output; ty = p.ty; name = p.name; metas = 
 
 abbrev pub told_of_symbol : Symbol → Told
 told_of_symbol symbol = record { output = is_output symbol.class; ty = symbol.ty; name = symbol.name; metas = symbol.metas }
-
--- the parameters, as whoever gives inputs sees them
-abbrev pub parameters_of : TypedShader → List Parameter
-parameters_of t = map (λ p. record { output = p.output; ty = p.ty }) t.params
 
 -- ---- the whole
 
