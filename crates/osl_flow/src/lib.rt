@@ -1,0 +1,10 @@
+//! What a layer's code reads and writes, and what is live in it: the analyses that a specialiser acts on.
+//!
+//! Sets of symbols are rows of bits (`osl_bits`), one bit a symbol. What an op reads and writes is defined in
+//! `oso_code/specs/Ops.antt`, ways through code and liveness in `osl_rewrites/specs/Flow.antt`; `specs/Uses.antt` says
+//! which row stands for which set.
+#![tactic(auto)]
+
+mod uses;
+
+pub use uses::{reads, writes};
