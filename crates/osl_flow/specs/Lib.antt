@@ -1,1 +1,3 @@
+pub mod Table
 pub mod Uses
+pub mod Ways

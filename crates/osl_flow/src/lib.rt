@@ -5,6 +5,9 @@
 //! which row stands for which set.
 #![tactic(auto)]
 
+mod contexts;
+mod table;
 mod uses;
 
+pub use table::surroundings;
 pub use uses::{reads, writes};
