@@ -1,6 +1,6 @@
 -- Heights of nodes: one more than the highest part's, wherever that part stands. In each row another part is the highest.
 use Rattle.std.proofs.Common.{ℕ, refl, rules}
-use Rattle.std.specs.Prelude.{◌+◌, pos, false, true, ◌++◌, List, [], ◌∷◌, codes, None, Some}
+use Rattle.std.specs.Prelude.{pos, false, true, ◌++◌, List, [], ◌∷◌, codes, None, Some}
 use Rattle.osl_tree.specs.declared.token.Punct.TheVariants as p
 use Rattle.osl_tree.specs.declared.terminal.Keyword.TheVariants as w
 use Rattle.osl_tree.specs.declared.terminal.Terminal.TheVariants as m
@@ -13,7 +13,7 @@ use Rattle.osl_tree.specs.declared.stmt.ForStart.TheVariants as starts
 use Rattle.osl_tree.specs.declared.stmt.Init.TheVariants as inits
 use Rattle.osl_tree.specs.declared.stmt.Stmt.TheVariants as s
 use Rattle.osl_tree.specs.declared.stmt.TypeName.TheVariants as types
-use Rattle.osl_tree.specs.Grammar.{IsBase, IsType, IsExpr, IsUnary, IsPostfix, IsPrimary, unary, binary, choice, assign, postfix, cast, primary, index, field, int, name, call, construct, paren, none, some, last, more, closure, of_one_word, base}
+use Rattle.osl_tree.specs.Grammar.{IsBase, IsType, IsExpr, IsUnary, IsPostfix, IsPrimary, unary, binary, choice, assign, postfix, cast, primary, index, field, int, call, construct, paren, none, some, last, more, closure, of_one_word, base}
 use Rattle.osl_tree.specs.Lexeme.{Lexeme}
 use Rattle.osl_tree.specs.Lexeme as l
 use Rattle.osl_tree.specs.Statements as g

@@ -1,3 +1,4 @@
 mod LongestWords
 mod Weights
 mod Heights
+mod Costs

@@ -1,7 +1,6 @@
 -- The longest word and the longest string: each place of each node is looked at, and metadata's strings are not.
 use Rattle.std.proofs.Common.{◌≡◌, ℕ, refl, ap, sym, ◌∙◌}
-use Rattle.std.specs.Prelude.{pos, false, List, [], ◌∷◌, codes, Option, None, Some}
-use Rattle.osl_value.specs.declared.shader_kind.ShaderKind.TheVariants as kinds
+use Rattle.std.specs.Prelude.{pos, List, [], ◌∷◌, codes, None, Some}
 use Rattle.osl_tree.specs.declared.expr.AssignOp.TheVariants as assigned
 use Rattle.osl_tree.specs.declared.expr.BaseType.TheVariants as base
 use Rattle.osl_tree.specs.declared.expr.BinaryOp.TheVariants as binary
@@ -10,14 +9,12 @@ use Rattle.osl_tree.specs.declared.expr.Expr.TheOpen as x
 use Rattle.osl_tree.specs.declared.expr.Expr.TheVariants as e
 use Rattle.osl_tree.specs.declared.expr.PostfixOp.TheVariants as postfix
 use Rattle.osl_tree.specs.declared.expr.PrefixOp.TheVariants as prefix
-use Rattle.osl_tree.specs.declared.stmt.Declaration.{Declaration}
 use Rattle.osl_tree.specs.declared.stmt.ForStart.TheVariants as from
 use Rattle.osl_tree.specs.declared.stmt.Init.TheVariants as begin
 use Rattle.osl_tree.specs.declared.stmt.Item.{Item}
 use Rattle.osl_tree.specs.declared.stmt.Stmt.TheOpen as s
 use Rattle.osl_tree.specs.declared.stmt.TypeName.TheVariants as types
-use Rattle.osl_tree.specs.declared.tree.Datum.{Datum}
-use Rattle.osl_typed.specs.Longest.{Longest, none, ◌and◌, all_of, maybe, named, expr_step, stmt_step, in_expr, in_fields, in_formal, in_structure, in_function, in_datum, in_param, in_var, in_declaration}
+use Rattle.osl_typed.specs.Longest.{Longest, none, ◌and◌, expr_step, stmt_step, in_expr, in_fields, in_datum, in_var, in_declaration}
 
 -- so many bytes of a word and of a string
 abbrev longest : ℕ → ℕ → Longest

@@ -1,6 +1,6 @@
 -- What each node adds to a shader's size and slots: a node and its type, each of its parts once, and the calls that are open at once.
 use Rattle.std.proofs.Common.{◌≡◌, ℕ, refl, ap, sym, ◌∙◌}
-use Rattle.std.specs.Prelude.{pos, true, false, ◌==◌, if◌then◌else◌, List, [], ◌∷◌, codes, Option, None, Some}
+use Rattle.std.specs.Prelude.{pos, true, false, ◌==◌, if◌then◌else◌, List, [], ◌∷◌, codes, None, Some}
 use Rattle.osl_value.specs.declared.op_name.OpName.TheVariants as op
 use Rattle.osl_value.specs.declared.types.Base.TheVariants as base
 use Rattle.osl_value.specs.declared.types.Ty.{Ty}
