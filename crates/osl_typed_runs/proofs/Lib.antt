@@ -14,3 +14,4 @@ pub mod FunctionTypes
 pub mod LayerTypes
 pub mod ConstantValues
 pub mod MetadataTypes
+mod Examples

@@ -42,6 +42,7 @@ pub record LeavesHaveTypes (types : List Ty) (vars : Environment) : Type 0 where
 pub record GlobalsHaveTypes (globals : Globals) : Type 0 where
   pub each : (g : GlobalName) → IsOfType (type_of_global g) (globals g)
 
+-- both
 pub record IsTypedState (types : List Ty) (s : State) : Type 0 where
   pub vars : LeavesHaveTypes types s.vars
   pub globals : GlobalsHaveTypes s.globals
