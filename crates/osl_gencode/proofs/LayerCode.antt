@@ -34,7 +34,8 @@ use Rattle.osl_gencode.specs.Bodies.{Body, Room, global_of}
 use Rattle.osl_gencode.proofs.SectionRuns.{layer_same, SameRun, Sections, does_same}
 use Rattle.osl_gencode.proofs.Growing.{get_extended}
 use Rattle.osl_gencode.proofs.RelatedStates.{low_symbol}
-use Rattle.osl_gencode.proofs.LayerStart.{AreSymbols, MayBeGiven, start_related}
+use Rattle.osl_gencode.specs.ShaderSymbols.{Defaults, AreSymbols}
+use Rattle.osl_gencode.proofs.LayerStart.{MayBeGiven, start_related}
 use Rattle.osl_gencode.proofs.LayerResults.{closure_same, outputs_same}
 
 -- ---- sections
@@ -70,12 +71,12 @@ may_be_given t inputs are = record {
 
 -- ---- the end
 
-module _ (t : TypedShader) (b : Body) (raw : Raw) (symbols : AreSymbols t b raw.symbols) (params : length t.params ≤ length b.types) (room : Room b raw.symbols)
+module _ (t : TypedShader) (defaults : Defaults) (b : Body) (raw : Raw) (symbols : AreSymbols t defaults b raw.symbols) (params : length t.params ≤ length b.types) (room : Room b raw.symbols)
     (unnamed : (k : ℕ) (symbol : Symbol) → k < length t.params + 6 → slice_get raw.symbols k ≡ Some symbol → code.is_ci symbol ≡ false) where
   outputs_are : (s : State) (x : R.State) → Related b raw.symbols s x → code.outputs_from 0 raw.symbols x.values ≡ source.outputs_from s.vars 0 t.params
   outputs_are s x rel =
-      let sp = symbols.split in
-      outputs_same 0 t.params raw.symbols x.values s.vars symbols.params symbols.others (λ k lt. let z : 0 + k ≡ k = omega arith in ap x.values (z ∙ sym (low_symbol b k (omega (arith, lt, sp)))) ∙ rel.vars k (omega (arith, lt, params)) ∙ sym (ap s.vars z))
+      let sp = symbols.body.split in
+      outputs_same 0 t.params raw.symbols x.values s.vars (λ k p at. let q = symbols.params k p at in record { symbol = q.symbol; here = q.here; is = q.is.class }) symbols.others (λ k lt. let z : 0 + k ≡ k = omega arith in ap x.values (z ∙ sym (low_symbol b k (omega (arith, lt, sp)))) ∙ rel.vars k (omega (arith, lt, params)) ∙ sym (ap s.vars z))
 
   ci_is : (symbol : Symbol) → symbol.class ≡ C.Global → symbol.name ≡ global_text G.Ci → code.is_ci symbol ≡ true
   ci_is symbol class name = ap (λ c. is_global c && bytes_eq symbol.name (global_text G.Ci)) class ∙ ap (λ n. bytes_eq n (global_text G.Ci)) name
@@ -83,10 +84,10 @@ module _ (t : TypedShader) (b : Body) (raw : Raw) (symbols : AreSymbols t b raw.
   closure_is : (s : State) (x : R.State) → Related b raw.symbols s x → code.closure_from 0 raw.symbols x.values ≡ parts_of (s.globals G.Ci)
   closure_is s x rel =
       let g = symbols.globals G.Ci in
-      let at = symbols.globals_at in
+      let at = symbols.body.globals_at in
       let k = length t.params + 6 in
       let e : 0 + k ≡ global_of b G.Ci = omega (arith, at) in
-      closure_same 0 k raw.symbols g.symbol x.values g.here (ci_is g.symbol g.class g.name) (λ j q lt here. unnamed j q lt here) ∙ ap (λ z. parts_of (x.values z)) e ∙ ap parts_of (rel.globals G.Ci)
+      closure_same 0 k raw.symbols g.symbol x.values g.here (ci_is g.symbol g.is.class g.is.name) (λ j q lt here. unnamed j q lt here) ∙ ap (λ z. parts_of (x.values z)) e ∙ ap parts_of (rel.globals G.Ci)
 
   results_are : (s : State) (x : R.State) → Related b raw.symbols s x → record { results = Some (code.results_by raw x); reads = x.reads } ≡ source.layer_end t (Next s)
   results_are s x rel =
@@ -101,11 +102,11 @@ module _ (t : TypedShader) (b : Body) (raw : Raw) (symbols : AreSymbols t b raw.
   end_same from (Spent s) out (x, is, reads) = ap (code.layer_end raw) (is 0 tt) ∙ (λ j. record { results = None; reads = reads j })
 
   -- where the sections do what the defaults and the body do, the runs give the same
-  pub runs_same : (inputs : Inputs) (point : Point) (budget : ℕ) → AreInputs (parameters_of t) inputs → Sections b (code.sources_of raw inputs) (steps_of raw) raw.symbols inputs (source.shader_frame t inputs) (source.functions_of t) (exec_all (source.shader_frame t inputs) (source.functions_of t) t.body) 0 t.params raw.sections → code.code_run raw inputs point budget ≡ source.source_run t inputs point budget
+  pub runs_same : (inputs : Inputs) (point : Point) (budget : ℕ) → AreInputs (parameters_of t) inputs → Sections b (code.sources_of raw inputs) (steps_of raw) raw.symbols inputs (source.shader_frame t inputs) (source.functions_of t) (exec_all (source.shader_frame t inputs) (source.functions_of t) t.body) defaults 0 t.params raw.sections → code.code_run raw inputs point budget ≡ source.source_run t inputs point budget
   unfolding code.code_run source.source_run
   runs_same inputs point budget are sections =
       let given = may_be_given t inputs are in
       let frame = source.shader_frame t inputs in
       let calls = source.functions_of t in
       end_same (code.sources_of raw inputs) (source.layer_run t inputs (source.start_of t inputs point budget)) (code.layer_run raw inputs point budget) (
-      layer_same b (code.sources_of raw inputs) (steps_of raw) raw.symbols inputs frame calls (exec_all frame calls t.body) 0 t.params raw.sections sections (source.start_of t inputs point budget) (code.start_of raw inputs point budget) (start_related t b raw inputs symbols given point budget))
+      layer_same b (code.sources_of raw inputs) (steps_of raw) raw.symbols inputs frame calls (exec_all frame calls t.body) defaults 0 t.params raw.sections sections (source.start_of t inputs point budget) (code.start_of raw inputs point budget) (start_related t defaults b raw inputs symbols given point budget))

@@ -9,7 +9,7 @@ use Rattle.oso_code.specs.declared.symbol.Class.TheVariants as C
 use Rattle.oso_code.specs.Symbols.{is_parameter}
 use Rattle.oso_code.specs.declared.symbol.Symbol.{Symbol}
 use Rattle.oso_code.specs.CodeRun.{is_parameter_at, output_of, outputs_from, is_ci, closure_from}
-use Rattle.osl_gencode.proofs.LayerStart.{IsParam}
+use Rattle.osl_gencode.specs.ShaderSymbols.{At, HasClass}
 
 -- ---- outputs
 
@@ -35,19 +35,19 @@ one_output true v outputs = refl
 one_output false v outputs = refl
 
 -- the first symbols are the parameters, with the values that these have
-pub outputs_same : (at : ℕ) (params : List TypedParam) (symbols : List Symbol) (values vars : ℕ → AnyValue) → ((k : ℕ) (p : TypedParam) → slice_get params k ≡ Some p → IsParam p symbols k) → ((k : ℕ) → length params ≤ k → is_parameter_at (slice_get symbols k) ≡ false) → ((k : ℕ) → k < length params → values (at + k) ≡ vars (at + k)) → outputs_from at symbols values ≡ source.outputs_from vars at params
+pub outputs_same : (at : ℕ) (params : List TypedParam) (symbols : List Symbol) (values vars : ℕ → AnyValue) → ((k : ℕ) (p : TypedParam) → slice_get params k ≡ Some p → At (HasClass p) symbols k) → ((k : ℕ) → length params ≤ k → is_parameter_at (slice_get symbols k) ≡ false) → ((k : ℕ) → k < length params → values (at + k) ≡ vars (at + k)) → outputs_from at symbols values ≡ source.outputs_from vars at params
 unfolding source.outputs_from
 outputs_same at [] symbols values vars are others same = no_outputs at symbols values (λ k. others k (omega arith))
 outputs_same at (p ∷ params) [] values vars are others same = absurd (let h = (are 0 p refl).here in cc h)
 outputs_same at (p ∷ params) (symbol ∷ symbols) values vars are others same =
     let is = are 0 p refl in
     let h : Some symbol ≡ Some is.symbol = is.here in
-    let class : symbol.class ≡ (if p.output then C.Oparam else C.Param) = ap (λ o. elim o [ None ↦ symbol.class | Some s ↦ s.class ]) h ∙ is.class in
+    let class : symbol.class ≡ (if p.output then C.Oparam else C.Param) = ap (λ o. elim o [ None ↦ symbol.class | Some s ↦ s.class ]) h ∙ is.is in
     let z : at ≡ at + 0 = omega arith in
     ap (λ c. output_of c (values at) (outputs_from (at + 1) symbols values)) class
     ∙ one_output p.output (values at) (outputs_from (at + 1) symbols values)
     ∙ ap (λ v. (if p.output then Some v else None) ∷ outputs_from (at + 1) symbols values) (ap values z ∙ same 0 (omega arith) ∙ sym (ap vars z))
-    ∙ ap (λ l. (if p.output then Some (vars at) else None) ∷ l) (outputs_same (at + 1) params symbols values vars (λ k q e. let s = are (suc k) q e in record { symbol = s.symbol; here = s.here; class = s.class; type = s.type; value = s.value }) (λ k le. others (suc k) (omega (arith, le))) (λ k lt. let e : (at + 1) + k ≡ at + suc k = omega arith in ap values e ∙ same (suc k) (omega (arith, lt)) ∙ sym (ap vars e)))
+    ∙ ap (λ l. (if p.output then Some (vars at) else None) ∷ l) (outputs_same (at + 1) params symbols values vars (λ k q e. let s = are (suc k) q e in record { symbol = s.symbol; here = s.here; is = s.is }) (λ k le. others (suc k) (omega (arith, le))) (λ k lt. let e : (at + 1) + k ≡ at + suc k = omega arith in ap values e ∙ same (suc k) (omega (arith, lt)) ∙ sym (ap vars e)))
 
 -- ---- the closure
 

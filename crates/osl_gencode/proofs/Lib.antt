@@ -60,3 +60,4 @@ pub mod OwnSymbols
 pub mod JumpsFit
 pub mod ValidCode
 pub mod PieceLaws
+pub mod ValuesFit

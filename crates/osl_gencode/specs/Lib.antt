@@ -6,6 +6,7 @@ pub mod Codes
 pub mod PartCodes
 pub mod CallCodes
 pub mod StandsFor
+pub mod ShaderSymbols
 pub mod Sizes
 pub mod Validity
 pub mod Pieces
