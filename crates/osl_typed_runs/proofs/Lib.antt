@@ -13,5 +13,6 @@ pub mod StatementTypes
 pub mod FunctionTypes
 pub mod LayerTypes
 pub mod ConstantValues
+pub mod MadeValues
 pub mod MetadataTypes
 mod Examples
