@@ -57,7 +57,7 @@ local_start : (ty : Ty) (symbols : List Symbol) (k : ℕ) (input : Input) (point
 local_start ty symbols k input point at =
     ap (symbol_start input point) at.here ∙ ⊎_elim (λ e. ap (class_start at.symbol input point) e) (λ e. ap (class_start at.symbol input point) e) at.is.class ∙ ap zero_value at.is.type
 
-named_back : (g : GlobalName) → global_named (global_text g) ≡ Some g
+pub named_back : (g : GlobalName) → global_named (global_text g) ≡ Some g
 named_back G.P = refl
 named_back G.N = refl
 named_back G.Ng = refl

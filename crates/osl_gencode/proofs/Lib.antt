@@ -61,3 +61,4 @@ pub mod JumpsFit
 pub mod ValidCode
 pub mod PieceLaws
 pub mod ValuesFit
+pub mod StartSymbols

@@ -49,14 +49,14 @@ tail_of (c ∷ cs) = cs
 pub own_differs : (m n : ℕ) → m < 2 ^ 64 → n < 2 ^ 64 → m ≢ n → own_name m ≢ own_name n
 own_differs m n hm hn ne e = ne (decimal_injective m n hm hn (ap tail_of e))
 
-differ_eq : (xs ys : List ℕ) → xs ≢ ys → bytes_eq xs ys ≡ false
+pub differ_eq : (xs ys : List ℕ) → xs ≢ ys → bytes_eq xs ys ≡ false
 differ_eq xs ys ne = by_test (bytes_eq xs ys) refl
   where
     by_test : (t : Bool) → bytes_eq xs ys ≡ t → bytes_eq xs ys ≡ false
     by_test true e = absurd (ne ((bytes_eq-Decides xs ys).0 e))
     by_test false e = e
 
-none_taken : (test : Symbol → Bool) (xs : List Symbol) → ((k : ℕ) (x : Symbol) → slice_get xs k ≡ Some x → test x ≡ false) → list_any test xs ≡ false
+pub none_taken : (test : Symbol → Bool) (xs : List Symbol) → ((k : ℕ) (x : Symbol) → slice_get xs k ≡ Some x → test x ≡ false) → list_any test xs ≡ false
 none_taken test [] h = refl
 none_taken test (x ∷ xs) h = ap (λ t. t || list_any test xs) (h 0 x refl) ∙ none_taken test xs (λ k y at. h (suc k) y at)
 
@@ -69,7 +69,7 @@ own_free syms are low = none_taken (λ symbol. bytes_eq (own_name (length syms))
 
 -- ---- symbols
 
-not_parameter : (leading : Bool) (symbol : Symbol) → is_parameter symbol.class ≡ false → IsTrue (parameter_fits leading symbol)
+pub not_parameter : (leading : Bool) (symbol : Symbol) → is_parameter symbol.class ≡ false → IsTrue (parameter_fits leading symbol)
 not_parameter leading symbol none = or_left (not (is_parameter symbol.class)) (leading && not (bytes_eq symbol.name main_name)) (ap not none)
 
 not_global : (class : Class) (name : List ℕ) (ty : Ty) → is_global class ≡ false → IsTrue (global_fits class name ty)

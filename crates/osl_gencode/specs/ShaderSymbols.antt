@@ -1,10 +1,11 @@
 -- The symbols that a shader's code begins with: those of the parameters, of the global variables and of the other variables.
-use Rattle.std.specs.Prelude.{ℕ, ◌+◌, nat_le, ◌<◌, ◌≤◌, ◌≡◌, ◌⊎◌, true, false, if◌then◌else◌, List, [], length, map, Option, Some, None, slice_get}
-use Rattle.std.specs.List.{flat_map}
+use Rattle.std.specs.Prelude.{ℕ, ◌+◌, nat_le, ◌<◌, ◌≤◌, ◌≡◌, ◌⊎◌, true, false, if◌then◌else◌, List, [], length, map, Option, Some, None, slice_get, IsTrue}
+use Rattle.std.specs.List.{flat_map, list_all}
+use Rattle.std.specs.Str.{bytes_eq}
 use Rattle.osl_value.specs.declared.types.Ty.{Ty}
 use Rattle.osl_value.specs.AnyValue.{AnyValue, type_of, zero_value}
 use Rattle.osl_value.specs.Laws.{HasValues}
-use Rattle.osl_layer.specs.Globals.{global_text, type_of_global}
+use Rattle.osl_layer.specs.Globals.{global_named, global_text, type_of_global}
 use Rattle.osl_layer.specs.Layer.{Input, From, Fixed, Default, Inputs}
 use Rattle.osl_layer.specs.declared.global.GlobalName.{GlobalName}
 use Rattle.osl_typed.specs.declared.shader.TypedParam.{TypedParam}
@@ -16,6 +17,10 @@ use Rattle.oso_code.specs.declared.symbol.Class.TheVariants as C
 use Rattle.oso_code.specs.declared.symbol.Symbol.{Symbol}
 use Rattle.oso_code.specs.CodeRun.{is_parameter_at, stated}
 use Rattle.osl_gencode.specs.Bodies.{Body, number_of}
+use Rattle.oso_code.specs.Holding.{is_type}
+use Rattle.oso_code.specs.Names.{is_name, main_name}
+use Rattle.oso_code.specs.Symbols.{datum_fits}
+use Rattle.osl_gencode.specs.OwnNames.{AreNamed, is_own}
 use Rattle.osl_gencode.specs.StandsFor.{meta_of}
 
 -- the symbol of a number is so
@@ -119,3 +124,39 @@ EndsAs later (Continues s) o = o ≡ Continues s
 EndsAs later (Returns vs s) o = o ≡ Returns vs s
 EndsAs later (Exits s) o = o ≡ Exits s
 EndsAs later (Spent s) o = (z : State) × (o ≡ Spent z) × (z.reads ≡ s.reads)
+
+-- ---- valid symbols, one after another
+
+-- what validity asks of a parameter besides its value
+pub record ParamFits (p : TypedParam) : Type 0 where
+  pub name : IsTrue (is_name p.name)
+  pub body : bytes_eq p.name main_name ≡ false
+  pub free : global_named p.name ≡ None
+  pub word : is_own p.name ≡ false
+  pub type : IsTrue (is_type p.ty)
+  pub metas : IsTrue (list_all datum_fits (map meta_of p.metadata))
+
+pub record ParamsFit (t : TypedShader) : Type 0 where
+  pub each : (k : ℕ) (p : TypedParam) → slice_get t.params k ≡ Some p → ParamFits p
+  pub differ : (j k : ℕ) (p q : TypedParam) → j < k → slice_get t.params j ≡ Some p → slice_get t.params k ≡ Some q → bytes_eq q.name p.name ≡ false
+
+-- the symbols of the first n parameters
+pub record ParamSymbols (t : TypedShader) (defaults : Defaults) (n : ℕ) (symbols : List Symbol) : Type 0 where
+  pub count : length symbols ≡ n
+  pub each : (k : ℕ) (p : TypedParam) → k < n → slice_get t.params k ≡ Some p → At (IsParam p (defaults k)) symbols k
+  pub named : AreNamed symbols
+
+-- those of all parameters and of the first n global variables
+pub record GlobalSymbols (t : TypedShader) (defaults : Defaults) (n : ℕ) (symbols : List Symbol) : Type 0 where
+  pub count : length symbols ≡ length t.params + n
+  pub params : (k : ℕ) (p : TypedParam) → slice_get t.params k ≡ Some p → At (IsParam p (defaults k)) symbols k
+  pub globals : (g : GlobalName) → number_of g < n → At (IsGlobal g) symbols (length t.params + number_of g)
+  pub named : AreNamed symbols
+
+-- those of all parameters, of the global variables, and of the first n leaves of other variables
+pub record LocalSymbols (t : TypedShader) (defaults : Defaults) (n : ℕ) (symbols : List Symbol) : Type 0 where
+  pub count : length symbols ≡ length t.params + 7 + n
+  pub params : (k : ℕ) (p : TypedParam) → slice_get t.params k ≡ Some p → At (IsParam p (defaults k)) symbols k
+  pub globals : (g : GlobalName) → At (IsGlobal g) symbols (length t.params + number_of g)
+  pub locals : (k : ℕ) (ty : Ty) → length t.params ≤ k → k < length t.params + n → slice_get (flat_map (leaves_of t.structures) t.frame) k ≡ Some ty → At (IsLocal ty) symbols (7 + k)
+  pub named : AreNamed symbols
