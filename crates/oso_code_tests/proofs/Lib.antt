@@ -1,2 +1,7 @@
+pub mod Words
 mod Names
 mod Runs
+mod Flaws
+mod Owners
+mod OperandTypes
+mod Limits

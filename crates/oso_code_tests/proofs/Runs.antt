@@ -2,7 +2,6 @@
 use Rattle.std.proofs.Common.{◌≡◌, ℕ, refl}
 use Rattle.std.specs.Int.{int_wrap}
 use Rattle.std.specs.Prelude.{◌==◌, Bool, true, false, if◌then◌else◌, ℤ, pos, neg_ℤ, List, [], ◌∷◌, length, map, codes, Option, None, Some}
-use Rattle.osl_value.specs.declared.closure.Primitive.TheVariants.{Emission}
 use Rattle.osl_value.specs.declared.op_name.OpName.{OpName}
 use Rattle.osl_value.specs.declared.op_name.OpName.TheVariants as op
 use Rattle.osl_value.specs.declared.point.Point.{Point}
@@ -11,7 +10,6 @@ use Rattle.osl_value.specs.declared.types.Base.TheVariants as base
 use Rattle.osl_value.specs.declared.types.Ty.{Ty}
 use Rattle.osl_value.specs.AnyValue.{AnyValue, with_numbers}
 use Rattle.osl_value.specs.Apply.{apply}
-use Rattle.osl_value.specs.Plain.{Plain}
 use Rattle.osl_value.specs.Types.{only}
 use Rattle.osl_layer.specs.Layer.{Input, From, Fixed, Default, Inputs, LayerResults}
 use Rattle.oso_code.specs.declared.op.Op.{Op}
