@@ -62,3 +62,4 @@ pub mod ValidCode
 pub mod PieceLaws
 pub mod ValuesFit
 pub mod StartSymbols
+pub mod ShaderFrames

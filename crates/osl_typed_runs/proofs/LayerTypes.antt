@@ -46,7 +46,7 @@ param_kind [] rest k param h = none_is_not param h
 param_kind (p ∷ params) rest zero param h = ap (λ (q : TypedParam). Some (Value q.ty)) (some_same p param h)
 param_kind (p ∷ params) rest (suc k) param h = param_kind params rest k param h
 
-param_leaf : (structures : List TypedStructure) (params : List TypedParam) (rest : List Kind) (k : ℕ) (param : TypedParam) → slice_get params k ≡ Some param
+pub param_leaf : (structures : List TypedStructure) (params : List TypedParam) (rest : List Kind) (k : ℕ) (param : TypedParam) → slice_get params k ≡ Some param
     → slice_get (flat_map (leaves_of structures) (kinds_of_formals (map as_formal params) ++ rest)) k ≡ Some param.ty
 param_leaf structures [] rest k param h = none_is_not param h
 param_leaf structures (p ∷ params) rest zero param h = ap (λ (q : TypedParam). Some q.ty) (some_same p param h)
