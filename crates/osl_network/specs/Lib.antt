@@ -1,0 +1,12 @@
+pub mod Building
+pub mod Edits
+pub mod Groups
+pub mod Inputs
+pub mod Meaning
+pub mod Needed
+pub mod Network
+pub mod Points
+pub mod Runs
+pub mod Shaders
+pub mod Statements
+pub mod Sure
