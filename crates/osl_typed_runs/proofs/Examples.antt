@@ -1,8 +1,8 @@
 -- Rows, by computing: what small shaders give and its types, at the ends of the ranges; and what is not of a type, each with its reason.
-use Rattle.std.proofs.Common.{◌≡◌, ℕ, ℤ, pos, negsuc, true, false, List, [], ◌∷◌, Some, None, refl, ap, ◌∙◌, lit≤}
+use Rattle.std.proofs.Common.{◌≡◌, ◌≢◌, ℕ, zero, suc, ℤ, pos, negsuc, true, false, List, [], ◌∷◌, Option, Some, None, refl, sym, ap, ◌∙◌, subst, arith, lit≤}
 use Rattle.std.specs.Int.{int_wrap}
-use Rattle.std.specs.Prelude.{◌==◌, if◌then◌else◌}
-use Rattle.std.proofs.lemmas.Bool.{false≢true, le-leb}
+use Rattle.std.specs.Prelude.{◌==◌, if◌then◌else◌, slice_get}
+use Rattle.std.proofs.lemmas.Bool.{false≢true, cond-false, le-leb, ne_eqb}
 use Rattle.std.proofs.lemmas.List.Elements.{All-nil, All-cons, All-head}
 use Rattle.osl_value.specs.declared.closure.Part.{Part}
 use Rattle.osl_value.specs.declared.closure.Primitive.TheVariants.{Emission}
@@ -15,9 +15,9 @@ use Rattle.osl_value.specs.AnyValue.{AnyValue, with_numbers, with_text}
 use Rattle.osl_value.specs.Apply.{apply}
 use Rattle.osl_value.specs.Numbers.{IsInRange, fmax, root_by, root_of}
 use Rattle.osl_value.specs.Types.{only, same_base}
-use Rattle.osl_value.specs.WellFormed.{AreFloats, AreParts, IsPart}
+use Rattle.osl_value.specs.WellFormed.{AreFloats, AreParts, IsPart, IsOfType, IsPoint}
 use Rattle.osl_layer.specs.declared.global.GlobalName.TheVariants as globals
-use Rattle.osl_layer.specs.Layer.{From, Fixed, Default, Inputs, LayerEnd, LayerResults}
+use Rattle.osl_layer.specs.Layer.{From, Fixed, Default, Inputs, LayerEnd, LayerResults, Parameter, AreInputs}
 use Rattle.osl_overload.specs.declared.signature.Kind.{Kind}
 use Rattle.osl_overload.specs.declared.signature.Kind.TheVariants.{Value, Structure}
 use Rattle.osl_typed.specs.declared.expr.Root.{Root}
@@ -31,6 +31,7 @@ use Rattle.osl_typed.specs.SourceRun.{outputs_from, source_run}
 use Rattle.osl_typed.specs.State.{in_order, leaves_at, with_leaves}
 use Rattle.osl_typed.specs.Statements.{finals_from, with_elements}
 use Rattle.osl_typed.proofs.Written as w
+use Rattle.osl_welltyped.proofs.Steps.{some_same}
 use Rattle.oso_code.specs.Holding.{makes_up}
 use Rattle.oso_code.specs.Typed.{OutputFits, AreResults}
 use Rattle.osl_typed_runs.specs.Parameters.{parameters_of}
@@ -76,7 +77,7 @@ floats xs = with_numbers float xs
 
 -- u is the greatest float
 abbrev here : Point
-here = record { p = pos 0 ∷ pos 0 ∷ pos 0 ∷ []; n = pos 0 ∷ pos 0 ∷ pos 1 ∷ []; ng = pos 0 ∷ pos 0 ∷ pos 0 ∷ []; i = pos 0 ∷ pos 0 ∷ pos 0 ∷ []; u = pos fmax; v = pos 0 }
+here = record { p = pos 0 ∷ pos 0 ∷ pos 0 ∷ []; n = pos 0 ∷ pos 0 ∷ pos 0 ∷ []; ng = pos 0 ∷ pos 0 ∷ pos 0 ∷ []; i = pos 0 ∷ pos 0 ∷ pos 0 ∷ []; u = pos fmax; v = pos 0 }
 
 abbrev defaults : Inputs
 defaults = λ k. Default
@@ -122,6 +123,59 @@ no_parts = record { few = lit≤ tt; all = All-nil IsPart }
 
 ends_typed : AreResults (parameters_of (w.shader ends)) at_ends
 ends_typed = record { outputs = (tt, (tt, (float_typed _ refl, (float_typed _ refl, (int_typed _ refl, tt))))); closure = no_parts }
+
+other_source : (v : AnyValue) (from : Option AnyValue) → Fixed v ≡ From from → ⊥
+other_source v from h = cc h
+
+no_source : (from : Option AnyValue) → Default ≡ From from → ⊥
+no_source from h = cc h
+
+not_fixed : (v : AnyValue) → Default ≡ Fixed v → ⊥
+not_fixed v h = cc h
+
+same_fixed : (v x : AnyValue) → Fixed v ≡ Fixed x → v ≡ x
+same_fixed v x h = cc h
+
+same_given : (v x : AnyValue) → From (Some v) ≡ From (Some x) → v ≡ x
+same_given v x h = cc h
+
+later_default : (k : ℕ) → greatest (suc (suc k)) ≡ Default
+later_default k =
+    cond-false (suc (suc k) == 0) (From (Some (floats (pos fmax ∷ [])))) _ (ne_eqb (suc (suc k)) 0 (λ e. omega (arith, e)))
+    ∙ cond-false (suc (suc k) == 1) (Fixed (ints (pos 2147483647 ∷ []))) Default (ne_eqb (suc (suc k)) 1 (λ e. omega (arith, e)))
+
+-- these inputs fit: no output is connected, and each value has its parameter's type
+greatest_fit : AreInputs (parameters_of (w.shader ends)) greatest
+greatest_fit = record { outputs = no_output_connected; fixed = fixed_typed; connected = connected_typed }
+  where
+    no_output_connected : (k : ℕ) (param : Parameter) (from : Option AnyValue) → slice_get (parameters_of (w.shader ends)) k ≡ Some param → param.output ≡ true → greatest k ≢ From from
+    no_output_connected zero param from is output h = false≢true (ap (λ (p : Parameter). p.output) (some_same _ param is) ∙ output)
+    no_output_connected (suc zero) param from is output h = other_source _ from h
+    no_output_connected (suc (suc k)) param from is output h = no_source from (sym (later_default k) ∙ h)
+
+    fixed_typed : (k : ℕ) (param : Parameter) (v : AnyValue) → slice_get (parameters_of (w.shader ends)) k ≡ Some param → greatest k ≡ Fixed v → IsOfType param.ty v
+    fixed_typed zero param v is h = absurd (other_source v _ (sym h))
+    fixed_typed (suc zero) param v is h = subst (λ (p : Parameter). IsOfType p.ty v) (some_same _ param is) (subst (IsOfType int) (same_fixed _ v h) (int_typed (pos 2147483647) refl))
+    fixed_typed (suc (suc k)) param v is h = absurd (not_fixed v (sym (later_default k) ∙ h))
+
+    connected_typed : (k : ℕ) (param : Parameter) (v : AnyValue) → slice_get (parameters_of (w.shader ends)) k ≡ Some param → greatest k ≡ From (Some v) → IsOfType param.ty v
+    connected_typed zero param v is h = subst (λ (p : Parameter). IsOfType p.ty v) (some_same _ param is) (subst (IsOfType float) (same_given _ v h) (float_typed (pos fmax) refl))
+    connected_typed (suc zero) param v is h = absurd (other_source _ (Some v) h)
+    connected_typed (suc (suc k)) param v is h = absurd (no_source (Some v) (sym (later_default k) ∙ h))
+
+-- and so does the point
+three_floats : (x : ℤ) → IsInRange x → AreFloats 3 (x ∷ x ∷ x ∷ [])
+three_floats x h = record { count_fits = refl; in_range = All-cons IsInRange x (x ∷ x ∷ []) h (All-cons IsInRange x (x ∷ []) h (All-cons IsInRange x [] h (All-nil IsInRange))) }
+
+here_fits : IsPoint here
+here_fits = record {
+  p = three_floats (pos 0) (lit≤ tt);
+  n = three_floats (pos 0) (lit≤ tt);
+  ng = three_floats (pos 0) (lit≤ tt);
+  i = three_floats (pos 0) (lit≤ tt);
+  u = lit≤ tt;
+  v = lit≤ tt;
+}
 
 -- ---- struct pair { float x; int n; };
 -- shader halves(output float r = 0, output int k = 1) { pair p = {0.5}; r = p.x; k = p.n; }: a field that is not listed is zero
@@ -213,9 +267,6 @@ of_glow = record { outputs = []; closure = glow ∷ [] }
 glow_given : Gives glows defaults of_glow
 unfolding leaves_below leaves_before leaves_at with_leaves in_order in_turn loop types_on_the_way selected with_selected finals_from with_elements outputs_from w.routines_below w.defaults_written w.run_of apply root_by root_of int_wrap
 glow_given = by_parts glows defaults ∙ refl
-
-three_floats : (x : ℤ) → IsInRange x → AreFloats 3 (x ∷ x ∷ x ∷ [])
-three_floats x h = record { count_fits = refl; in_range = All-cons IsInRange x (x ∷ x ∷ []) h (All-cons IsInRange x (x ∷ []) h (All-cons IsInRange x [] h (All-nil IsInRange))) }
 
 glow_typed : AreResults (parameters_of (w.shader glows)) of_glow
 glow_typed = record {
