@@ -63,3 +63,4 @@ pub mod PieceLaws
 pub mod ValuesFit
 pub mod StartSymbols
 pub mod ShaderFrames
+pub mod ShaderFits
