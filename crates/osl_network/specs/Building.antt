@@ -8,7 +8,8 @@ use Rattle.osl_value.specs.Plain.{Plain}
 use Rattle.osl_value.specs.Types.{only, same_base, same_type, slot_count}
 use Rattle.osl_network.specs.declared.refusal.GroupError.{GroupError}
 use Rattle.osl_network.specs.declared.refusal.GroupError.TheVariants.{SameShader, NoShader, SameLayer, NoLayer, NoParam, NotOutput, NotInput, NotUpstream, WrongType, Connected, TooMany, Empty}
-use Rattle.osl_network.specs.Network.{Port, Place, Layer, Network, layer_at, port_at, source_at, layer_named, place_named}
+use Rattle.osl_network.specs.declared.port.Port.{Port}
+use Rattle.osl_network.specs.Network.{Place, Layer, Network, layer_at, port_at, source_at, layer_named, place_named}
 
 -- ---- what a builder holds
 

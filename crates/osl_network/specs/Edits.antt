@@ -3,7 +3,8 @@ use Rattle.std.specs.Prelude.{◌≡◌, ℕ, ◌≤◌, List, [], ◌∷◌, le
 use Rattle.std.specs.List.{All}
 use Rattle.osl_value.specs.Plain.{Plain}
 use Rattle.osl_network.specs.Groups.{ValueFits}
-use Rattle.osl_network.specs.Network.{Port, Network, port_at}
+use Rattle.osl_network.specs.declared.port.Port.{Port}
+use Rattle.osl_network.specs.Network.{Network, port_at}
 use Rattle.osl_network.specs.Runs.{GroupValues, values_of}
 
 -- a value in place of that of one parameter

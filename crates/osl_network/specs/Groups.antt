@@ -7,7 +7,8 @@ use Rattle.osl_value.specs.Plain.{Plain}
 use Rattle.osl_value.specs.Types.{same_base}
 use Rattle.osl_value.specs.WellFormed.{IsOfType}
 use Rattle.osl_network.specs.Building.{most_layers, most_asked, most_asked_slots, asked_slots}
-use Rattle.osl_network.specs.Network.{Port, Place, Layer, Network, layer_at, port_at, source_at, layer_named, port_named}
+use Rattle.osl_network.specs.declared.port.Port.{Port}
+use Rattle.osl_network.specs.Network.{Place, Layer, Network, layer_at, port_at, source_at, layer_named, port_named}
 use Rattle.osl_network.specs.Runs.{GroupValues}
 
 -- ---- values

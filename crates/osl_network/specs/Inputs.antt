@@ -4,7 +4,8 @@ use Rattle.osl_value.specs.AnyValue.{AnyValue, Of, converted}
 use Rattle.osl_value.specs.Plain.{Plain}
 use Rattle.osl_layer.specs.Layer.{Input, From, Fixed, Default, Inputs, LayerEnd, LayerResults}
 use Rattle.osl_network.specs.declared.variables.Var.{Var}
-use Rattle.osl_network.specs.Network.{Port, Place, Layer}
+use Rattle.osl_network.specs.declared.port.Port.{Port}
+use Rattle.osl_network.specs.Network.{Place, Layer}
 use Rattle.osl_network.specs.Points.{variable_of}
 
 -- what an output holds at the end of its layer, where the layer gave something

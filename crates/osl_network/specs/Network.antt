@@ -1,17 +1,9 @@
 -- Groups of connected layers, without what runs a layer (OSL specification, "Shader groups": layers, instance values, connections).
 use Rattle.std.specs.Prelude.{ℕ, Bool, List, Option, Some, option_and_then, slice_get, position}
 use Rattle.std.specs.Str.{bytes_eq}
-use Rattle.osl_value.specs.declared.types.Ty.{Ty}
 use Rattle.osl_value.specs.Plain.{Plain}
 use Rattle.osl_layer.specs.Layer.{Parameter}
-
--- a parameter of a shader, as a group sees it
-pub record Port : Type 0 where
-  pub name : List ℕ
-  pub ty : Ty
-  pub output : Bool
-  -- the shader's own metadata says `int lockgeom = 0` of it
-  pub loose : Bool
+use Rattle.osl_network.specs.declared.port.Port.{Port}
 
 -- a parameter of a layer, by the numbers of the layer and of the parameter in it
 abbrev pub Place : Type 0

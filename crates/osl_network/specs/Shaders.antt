@@ -16,7 +16,8 @@ use Rattle.oso_code.specs.declared.symbol.Meta.{Meta}
 use Rattle.oso_code.specs.declared.symbol.Symbol.{Symbol}
 use Rattle.oso_code.specs.CodeRun.{is_output, code_run}
 use Rattle.oso_code.specs.Symbols.{is_parameter}
-use Rattle.osl_network.specs.Network.{Port, Network}
+use Rattle.osl_network.specs.declared.port.Port.{Port}
+use Rattle.osl_network.specs.Network.{Network}
 use Rattle.osl_network.specs.Runs.{Running, Runnings, nothing}
 
 -- ---- metadata

@@ -7,10 +7,12 @@
 //! (`specs/Shaders.antt`) alike.
 #![tactic(auto)]
 
+pub mod port;
 pub mod refusal;
 pub mod statement;
 pub mod variables;
 
+pub use port::Port;
 pub use refusal::GroupError;
 pub use statement::Statement;
 pub use variables::{Var, VarList, VarPoint};
