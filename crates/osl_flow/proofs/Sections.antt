@@ -7,7 +7,7 @@ use Rattle.oso_code.specs.declared.op.Section.{Section}
 use Rattle.oso_code.specs.declared.raw.Raw.{Raw}
 use Rattle.oso_code.specs.declared.symbol.Symbol.{Symbol}
 use Rattle.oso_code.specs.Faults.{unless}
-use Rattle.oso_code.specs.Nesting.{after, IsClosed}
+use Rattle.oso_code.specs.Nesting.{after}
 use Rattle.oso_code.specs.Ranges.{steps_of}
 use Rattle.oso_code.specs.Sections.{owner_fits, may_have_section, owner_follows, section_fits, follows, later_faults, is_body, end_faults, section_faults}
 use Rattle.oso_code.specs.Steps.{Step}

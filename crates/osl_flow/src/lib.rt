@@ -6,6 +6,9 @@
 #![tactic(auto)]
 
 mod contexts;
+mod passes;
+mod refresh;
+mod rows;
 mod table;
 mod uses;
 

@@ -1,4 +1,4 @@
-use Rattle.std.proofs.Common.{length, arith, ap, ◌∙◌, subst, sym, ◌≡◌, ◌+◌, rules}
+use Rattle.std.proofs.Common.{length, arith, ap, ◌∙◌, subst, sym, ◌≡◌, ◌+◌}
 use Rattle.std.specs.Prelude.{slice_get, Some}
 use Rattle.oso_code.specs.Ranges.{steps_of}
 use Rattle.oso_code.specs.Steps.{step_of}

@@ -4,10 +4,10 @@ use Rattle.oso_code.specs.declared.op.Section.{Section}
 use Rattle.oso_code.specs.Ranges.{steps_of}
 use Rattle.oso_code.proofs.Decoding.{length_steps}
 use Rattle.osl_rewrites.specs.Flow.{within_section}
-use Rattle.osl_flow.specs.Table.{table_of, noted, Walked}
+use Rattle.osl_flow.specs.Table.{table_of, noted}
 use Rattle.osl_flow.proofs.Loops.{copied_at}
 use Rattle.osl_flow.proofs.Sections.{valid_at_most}
-use Rattle.osl_flow.proofs.Walk.{Laid, Begun, valid_laid, section_begun, section_size, begun_all}
+use Rattle.osl_flow.proofs.Walk.{Begun, valid_laid, section_begun, section_size, begun_all}
 use Rattle.osl_flow.proofs.table.note_sections.Goals as goal
 
 pub within_section-requires : goal.within_section-requires

@@ -1,7 +1,7 @@
 use Rattle.std.proofs.Common.{◌≡◌, length}
 use Rattle.oso_code.specs.Ranges.{steps_of}
 use Rattle.osl_flow.specs.Table.{table_of}
-use Rattle.osl_flow.proofs.Walk.{Laid, Begun, valid_laid}
+use Rattle.osl_flow.proofs.Walk.{Laid, Begun}
 use Rattle.osl_flow.proofs.table.note_sections.Given as goal
 
 abbrev pub invariant-loop-section : goal.invariant-loop-section
