@@ -1,0 +1,3 @@
+pub mod Order
+pub mod Strings
+pub mod Matrices
