@@ -64,3 +64,5 @@ pub mod ValuesFit
 pub mod StartSymbols
 pub mod ShaderFrames
 pub mod ShaderFits
+pub mod KindedOps
+pub mod SymbolUses

@@ -1,11 +1,12 @@
 -- What a piece of code keeps so that the whole is valid: its ops fit, wherever they are in the section, and its value may be read there.
-use Rattle.std.specs.Prelude.{ℕ, ◌≤◌, ◌≡◌, List, length, map, Option, Some, slice_get, IsTrue}
+use Rattle.std.specs.Prelude.{ℕ, ◌+◌, ◌<◌, ◌≤◌, ◌≡◌, List, [], ◌∷◌, length, map, Option, Some, slice_get, IsTrue}
 use Rattle.std.specs.List.{list_all}
 use Rattle.osl_value.specs.declared.shader_kind.ShaderKind.{ShaderKind}
 use Rattle.osl_value.specs.declared.types.Ty.{Ty}
 use Rattle.oso_code.specs.declared.op.Op.{Op}
 use Rattle.oso_code.specs.declared.symbol.Symbol.{Symbol}
 use Rattle.oso_code.specs.Ops.{type_at, may_read, may_write, op_fits}
+use Rattle.osl_gencode.specs.Codes.{Place}
 
 -- ---- ops
 
@@ -24,3 +25,12 @@ pub record Takes (owner : Option ℕ) (syms : List Symbol) (rs : List ℕ) (type
 pub record Writes (kind : ShaderKind) (owner : Option ℕ) (syms : List Symbol) (w : ℕ) (ty : Ty) : Type 0 where
   pub may : IsTrue (may_write kind syms owner (Some w))
   pub typed : type_at syms w ≡ ty
+
+-- the n symbols from r on may be read in the section
+pub record MayRead (owner : Option ℕ) (syms : List Symbol) (r n : ℕ) : Type 0 where
+  pub each : (k : ℕ) → k < n → IsTrue (may_read syms owner (r + k))
+
+-- and those of each place
+abbrev pub AllReadable : Option ℕ → List Symbol → List Place → Type 0
+AllReadable owner syms [] = Unit {0}
+AllReadable owner syms (p ∷ ps) = MayRead owner syms p.first (length p.types) × AllReadable owner syms ps
