@@ -1,0 +1,4 @@
+pub mod Pieces
+pub mod Statements
+pub mod Reading
+pub mod Seen
