@@ -8,5 +8,6 @@ pub mod Network
 pub mod Points
 pub mod Runs
 pub mod Shaders
+pub mod Specialised
 pub mod Statements
 pub mod Sure
