@@ -66,3 +66,4 @@ pub mod ShaderFrames
 pub mod ShaderFits
 pub mod KindedOps
 pub mod SymbolUses
+pub mod DepthNodes

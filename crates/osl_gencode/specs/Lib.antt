@@ -10,4 +10,5 @@ pub mod ShaderSymbols
 pub mod Sizes
 pub mod Validity
 pub mod Pieces
+pub mod Depths
 pub mod OwnNames
