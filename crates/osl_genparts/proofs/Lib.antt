@@ -1,0 +1,3 @@
+pub mod OwnSymbols
+pub mod FoundConstants
+pub mod CalmLaws

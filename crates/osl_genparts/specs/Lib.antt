@@ -1,0 +1,4 @@
+pub mod Made
+pub mod Calm
+pub mod Insides
+pub mod Promises
