@@ -1,2 +1,3 @@
 mod Numbers
 mod Pieces
+mod Places

@@ -1,8 +1,7 @@
 -- Which texts are numbers, and what they are worth: points and exponents in each place, halves of a unit, both ends of the ranges, suffixes.
 use Rattle.std.proofs.Common.{◌≡◌, ℕ, refl}
-use Rattle.std.specs.Prelude.{ℤ, pos, neg_ℤ, true, false, List, [], ◌∷◌, map, codes, Option, None, Some}
+use Rattle.std.specs.Prelude.{ℤ, pos, neg_ℤ, [], ◌∷◌, map, codes, None, Some}
 use Rattle.osl_decimal.specs.Decimal.{mantissa, whole, decimals, exponent, exponent_digits, is_decimal, raising, lowering, numerator, denominator, decimal_units, fx_of, int_of}
-use Rattle.osl_tree.specs.declared.token.TokenKind.{TokenKind}
 use Rattle.osl_tree.specs.declared.token.TokenKind.TheVariants as kinds
 use Rattle.osl_lex.specs.Value.{hex_of, float_of, number_of}
 

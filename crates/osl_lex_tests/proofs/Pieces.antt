@@ -1,8 +1,7 @@
 -- Blanks, words, escapes, comments, strings and marks.
 use Rattle.std.proofs.Common.{◌≡◌, ℕ, refl}
-use Rattle.std.specs.Prelude.{true, false, not, Bool, List, [], ◌∷◌, ◌++◌, map, filter, codes, Option, None, Some}
+use Rattle.std.specs.Prelude.{true, false, Bool, List, [], ◌∷◌, map, filter, codes, None, Some}
 use Rattle.std.specs.List.{range_with_len}
-use Rattle.osl_tree.specs.declared.token.Punct.{Punct}
 use Rattle.osl_tree.specs.declared.token.Punct.TheVariants as p
 use Rattle.osl_tree.specs.declared.terminal.Keyword.TheVariants as w
 use Rattle.osl_tree.specs.Lexical.{is_blank, begins_word, is_word_byte}
