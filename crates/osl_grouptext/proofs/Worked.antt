@@ -1,5 +1,5 @@
 -- Texts of groups, and what is read of them.
-use Rattle.std.proofs.Common.{codes, ◌≡◌, pos, Bool, true, [], ◌∷◌, ◌++◌, Option, Some, None, Ok, Err, refl}
+use Rattle.std.proofs.Common.{List, codes, ◌≡◌, pos, Bool, true, false, [], ◌∷◌, ◌++◌, Option, Some, None, Ok, Err, refl}
 use Rattle.osl_decimal.specs.Decimal.{fx_of, is_decimal, whole, mantissa, decimals, exponent, exponent_digits, raising, lowering, numerator, denominator, decimal_units}
 use Rattle.osl_value.specs.declared.types.Base.TheVariants.{Float, Str}
 use Rattle.osl_value.specs.Types.{only}
@@ -8,6 +8,7 @@ use Rattle.osl_valuetext.specs.Literals.{string_at, text_at, numbers_at, strings
 use Rattle.osl_valuetext.specs.Types.{length_at, type_at}
 use Rattle.osl_network.specs.declared.statement.Statement.{Statement}
 use Rattle.osl_network.specs.declared.statement.Statement.TheVariants as statements
+use Rattle.osl_grouptext.specs.Canon.{group_text}
 use Rattle.osl_grouptext.specs.Pieces.{words}
 use Rattle.osl_grouptext.specs.Reading.{reads, reading}
 use Rattle.osl_grouptext.specs.Statements.{valued_at, param_at, shader_at, connect_at, output_at, statement_at}
@@ -97,3 +98,17 @@ two_values = refl
 closure_value : reading (codes "param closure color c;") ≡ Err 1
 unfolding reading words reads statement_at param_at valued_at type_at length_at value_at
 closure_value = refl
+
+-- ---- what is written is read as the same
+
+each_kind : List Statement
+each_kind = text_param (Some false) ∷ matte ∷ statements.Connect (codes "a") (codes "r") (codes "b") (codes "x") ∷ statements.Output (codes "a") (codes "o") ∷ []
+
+written : group_text each_kind
+    ≡ codes "param string s " ++ 34 ∷ codes "a;b" ++ 34 ∷ codes " [[ int lockgeom = 0 ]] ;" ++ 10 ∷ codes "shader matte a ;" ++ 10 ∷ codes "connect a.r b.x ;" ++ 10 ∷ codes "output a.o ;" ++ 10 ∷ []
+unfolding each_kind matte text_param group_text
+written = refl
+
+read_again : reading (group_text each_kind) ≡ Ok each_kind
+unfolding each_kind matte text_param group_text reading words reads statement_at param_at shader_at connect_at output_at pair_at valued_at type_at length_at value_at values_at strings_at text_at string_at
+read_again = refl

@@ -1,4 +1,5 @@
 pub mod Pieces
 pub mod Statements
+pub mod Canon
 pub mod Reading
 pub mod Seen

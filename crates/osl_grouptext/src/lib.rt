@@ -9,7 +9,9 @@ mod pieces;
 mod read;
 mod statement;
 mod text;
+mod write;
 
 pub use error::GroupTextError;
 pub use read::read_group;
 pub use text::GroupText;
+pub use write::write_group;
