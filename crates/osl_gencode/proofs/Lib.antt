@@ -67,3 +67,4 @@ pub mod ShaderFits
 pub mod KindedOps
 pub mod SymbolUses
 pub mod DepthNodes
+pub mod ShaderCode

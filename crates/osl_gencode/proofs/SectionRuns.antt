@@ -84,7 +84,7 @@ module _ (b : Body) (from : R.Sources) (steps : List Step) (syms : List Symbol) 
     same_vars s u vars globals turns reads = (λ i. record { vars = λ j. vars j i; globals = globals i; turns = turns i; reads = reads i })
 
     -- nothing is ahead
-    ahead_none : (k : ℕ) (s : State) → ((j : ℕ) → k ≤ j → defaults j ≡ None) → ahead k s ≡ s
+    pub ahead_none : (k : ℕ) (s : State) → ((j : ℕ) → k ≤ j → defaults j ≡ None) → ahead k s ≡ s
     ahead_none k s none = same_vars (ahead k s) s (λ j. at_place k j (s.vars j) (s.vars j) (λ le. ap (λ d. stated_or (inputs j) d (s.vars j)) (none j le) ∙ stated_none (inputs j) (s.vars j)) (λ lt. refl)) refl refl refl
 
     -- parameter k is not ahead, so what is ahead is so after it

@@ -62,7 +62,7 @@ get_taken (x ∷ xs) (suc n) (suc k) lt = get_taken xs n k (omega (arith, lt))
 
 -- ---- classes
 
-is_param : (t : Bool) (class : Class) → class ≡ (if t then C.Oparam else C.Param) → is_parameter class ≡ true
+pub is_param : (t : Bool) (class : Class) → class ≡ (if t then C.Oparam else C.Param) → is_parameter class ≡ true
 is_param true class e = ap is_parameter e
 is_param false class e = ap is_parameter e
 

@@ -11,4 +11,5 @@ pub mod Sizes
 pub mod Validity
 pub mod Pieces
 pub mod Depths
+pub mod SectionCodes
 pub mod OwnNames
