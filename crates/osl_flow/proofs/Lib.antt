@@ -1,4 +1,6 @@
 pub mod Bits
+pub mod Begin
+pub mod Exact
 pub mod Live
 pub mod Loops
 pub mod Rounds

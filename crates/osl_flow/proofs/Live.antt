@@ -26,7 +26,7 @@ use Rattle.osl_rewrites.specs.declared.point.Around.{Around}
 use Rattle.osl_rewrites.specs.declared.point.Spot.{Spot}
 use Rattle.osl_rewrites.specs.declared.point.Spot.TheVariants.{At, Test, Gate, Done}
 use Rattle.osl_flow.specs.Rows.{number, row_at, is_symbol, before, UsesBelow, lacks, all_lack, IsReal, live_bit, wanted, SettledAt, AllEarned, Sized, Passed}
-use Rattle.osl_flow.specs.Uses.{bit, has}
+use Rattle.osl_flow.specs.Uses.{bit, has, writes_of}
 
 -- ---- lists
 
@@ -44,7 +44,7 @@ pub record OneOf (row : Spot → ℕ → Bool) (spots : List Spot) (k : ℕ) : T
   pub among : Among spot spots
   pub has_it : row spot k ≡ true
 
-any_one : (row : Spot → ℕ → Bool) (spots : List Spot) (k : ℕ) → list_any (λ q. row q k) spots ≡ true → OneOf row spots k
+pub any_one : (row : Spot → ℕ → Bool) (spots : List Spot) (k : ℕ) → list_any (λ q. row q k) spots ≡ true → OneOf row spots k
 any_one row [] k h = absurd (cc h)
 any_one row (q ∷ qs) k h = ⊎_elim
     (λ (e : row q k ≡ true). record { spot = q; among = inl refl; has_it = e })
@@ -293,3 +293,21 @@ module _ (raw : Raw) (table : ℕ → Around) (rows : List (List Bool)) (p : Spo
         still = λ e. ap (set rows at) (still e ∙ was) ∙ set-get_or rows at [];
         rises = λ e. let less = rises e in let sum = all_lack_set rows at new lt in let same = ap lacks was in omega (arith, less, sum, same);
       }
+
+-- what was joined for an op is what is live after it
+pub after_any : (raw : Raw) (table : ℕ → Around) (rows : List (List Bool)) (k i : ℕ) (a : Around) (seen step : Step) (spots : List Spot) (joined : List Bool) → slice_get (steps_of raw) i ≡ Some step → a ≡ table i → seen ≡ step → spots ≡ nexts_of i a seen
+    → bit joined k ≡ list_any (λ q. live_bit raw table rows q k) spots → bit joined k ≡ list_any (λ q. live_bit raw table rows q k) (nexts (steps_of raw) raw.sections table (At i))
+after_any raw table rows k i a seen step spots joined is ea es espots ej =
+    let G = λ (qs : List Spot). list_any (λ q. live_bit raw table rows q k) qs in
+    ej ∙ ap G (espots ∙ ap (λ a. nexts_of i a seen) ea ∙ ap (nexts_of i (table i)) es) ∙ sym (ap (λ o. G (elim o [ None ↦ [] | Some step ↦ nexts_of i (table i) step ])) is)
+
+-- the symbols of an op of valid code are among the code's
+pub reads_below : (raw : Raw) → IsValid raw → (i : ℕ) (op : Op) → slice_get raw.ops i ≡ Some op → All (λ k. k < length raw.symbols) (reads op)
+reads_below raw valid i op is = reads_number (length raw.symbols) op (all_numbers (length raw.symbols) op.args (op_facts raw i op (valid.ops i op is)).numbers)
+
+pub writes_below : (raw : Raw) → IsValid raw → (i : ℕ) (op : Op) → slice_get raw.ops i ≡ Some op → All (λ k. k < length raw.symbols) (writes_of op)
+writes_below raw valid i op is = one (written op) (λ k e. written_number (length raw.symbols) op k (all_numbers (length raw.symbols) op.args (op_facts raw i op (valid.ops i op is)).numbers) e)
+  where
+    one : (o : Option ℕ) → ((k : ℕ) → o ≡ Some k → k < length raw.symbols) → All (λ k. k < length raw.symbols) (elim o [ None ↦ [] | Some k ↦ k ∷ [] ])
+    one None h = All-nil (λ k. k < length raw.symbols)
+    one (Some k) h = All-cons (λ k. k < length raw.symbols) k [] (h k refl) (All-nil (λ k. k < length raw.symbols))

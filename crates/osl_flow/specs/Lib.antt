@@ -1,3 +1,4 @@
+pub mod Flow
 pub mod Rows
 pub mod Table
 pub mod Uses

@@ -6,11 +6,14 @@
 #![tactic(auto)]
 
 mod contexts;
+mod flow;
+mod liveness;
 mod passes;
 mod refresh;
 mod rows;
 mod table;
 mod uses;
 
+pub use flow::Flow;
 pub use table::surroundings;
 pub use uses::{reads, writes};

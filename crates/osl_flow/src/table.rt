@@ -85,7 +85,8 @@ fn note_ops(table: &mut [Around], code: &Raw)
 
 /// What is around each op of a shader's code.
 pub fn surroundings(alloc: Global, code: &Shader) -> Result<Vec<Around>, Memory>
-    ensures { IfOk result (λ table. Surrounds (steps_of code.now) code.now.sections (table_of table.items)) }
+    ensures surrounds { IfOk result (λ table. Surrounds (steps_of code.now) code.now.sections (table_of table.items)) }
+    ensures size { IfOk result (λ table. length table.items ≡ length code.now.ops) }
 {
     let raw = code.raw();
     let nowhere = Around {
