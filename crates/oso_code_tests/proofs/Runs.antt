@@ -321,6 +321,18 @@ budget_is_one : results (body (jumping op.DoWhile (i ∷ []) (1 ∷ 1 ∷ []) �
 unfolding code_run ops_run run loop put step_of apply int_wrap
 budget_is_one = refl
 
+-- a test that fails takes no turn, so the next loop has it
+abbrev two_loops : Raw
+two_loops = body (jumping op.While (i ∷ []) (1 ∷ 2 ∷ []) ∷ plain op.Assign (r ∷ two ∷ []) ∷ jumping op.DoWhile (i ∷ []) (4 ∷ 4 ∷ []) ∷ plain op.Assign (r ∷ three ∷ []) ∷ [])
+
+no_turn_for_a_test : results two_loops defaults 1 ≡ (gives 3)
+unfolding code_run ops_run run loop put step_of apply int_wrap
+no_turn_for_a_test = refl
+
+no_turn_is_left : results two_loops defaults 0 ≡ None
+unfolding code_run ops_run run loop put step_of apply int_wrap
+no_turn_is_left = refl
+
 -- ---- calls, and what leaves them
 
 call_end : results (body (jumping op.FunctionCall ([]) (2 ∷ []) ∷ plain op.Assign (r ∷ two ∷ []) ∷ plain op.Add (r ∷ r ∷ one ∷ []) ∷ [])) defaults 0 ≡ (gives 3)
