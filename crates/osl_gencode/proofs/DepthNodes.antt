@@ -1,22 +1,25 @@
 -- The ranges of a part's code lie no deeper than those of the whole, and where they are ranges of an op of the whole, one less deep.
-use Rattle.std.proofs.Common.{◌≡◌, ℕ, zero, suc, ◌+◌, ◌*◌, ◌≤◌, List, [], ◌∷◌, map, Some, None, ap, arith}
+use Rattle.std.proofs.Common.{◌≡◌, ℕ, zero, suc, ◌+◌, ◌*◌, ◌≤◌, List, [], ◌∷◌, map, Some, None, ap, arith, Option}
 use Rattle.std.specs.Prelude.{slice_get, max}
 use Rattle.osl_value.specs.declared.op_name.OpName.{OpName}
 use Rattle.osl_value.specs.declared.types.Ty.{Ty}
 use Rattle.osl_overload.specs.declared.signature.Kind.{Kind}
 use Rattle.osl_typed.specs.declared.expr.Argument.{Argument}
 use Rattle.osl_typed.specs.declared.expr.Argument.TheVariants as arguments
+use Rattle.osl_typed.specs.declared.expr.Part.{Part}
+use Rattle.osl_typed.specs.declared.expr.Root.{Root}
 use Rattle.osl_typed.specs.declared.expr.TypedExpr.{TypedExpr}
 use Rattle.osl_typed.specs.declared.expr.TypedExpr.TheVariants as e
 use Rattle.osl_typed.specs.declared.shader.TypedFunction.{TypedFunction}
 use Rattle.osl_typed.specs.declared.sizes.Weight.{Weight}
+use Rattle.osl_typed.specs.declared.stmt.TypedForStart.{TypedForStart}
 use Rattle.osl_typed.specs.declared.stmt.TypedStmt.{TypedStmt}
 use Rattle.osl_typed.specs.declared.stmt.TypedStmt.TheVariants as s
-use Rattle.osl_typed.specs.Sizes.{Scale, all_of, weight, weight_done, weight_passed, formal_weight, body_weight, call_weight}
-use Rattle.osl_typed.proofs.WeightLaws.{weight-Paren, weight-Promote, weight-Apply, weight-And, weight-Or, weight-Choose, weight-Call, weight-In, done-Block, done-Expr, done-Return, done-If, done-If-Else, done-While, done-DoWhile}
-use Rattle.osl_welltyped.specs.Measures.{by_height, greatest_of, measured, argument_measured, stmt_measured, body_measured}
-use Rattle.osl_welltyped.proofs.MeasureLaws.{measured-Paren, measured-Promote, measured-Apply, measured-And, measured-Or, measured-Choose, measured-Call, measured-In}
-use Rattle.osl_welltyped.proofs.StatementNodes.{measured-Block, measured-Expr, measured-Return, measured-If, measured-If-else, measured-While, measured-DoWhile}
+use Rattle.osl_typed.specs.Sizes.{Scale, all_of, start_weight, maybe_weight, weight, weight_done, weight_passed, formal_weight, body_weight, call_weight}
+use Rattle.osl_typed.proofs.WeightLaws.{weight-Paren, weight-Promote, weight-Apply, weight-And, weight-Or, weight-Choose, weight-Call, weight-In, done-Block, done-Expr, done-Return, done-If, done-If-Else, done-While, done-DoWhile, done-For, weight-Variable, weight-PartOf, weight-Assign, weight-Update}
+use Rattle.osl_welltyped.specs.Measures.{by_height, greatest_of, start_measured, maybe_measured, measured, argument_measured, stmt_measured, body_measured}
+use Rattle.osl_welltyped.proofs.MeasureLaws.{measured-Paren, measured-Promote, measured-Apply, measured-And, measured-Or, measured-Choose, measured-Call, measured-In, measured-Variable, measured-PartOf, measured-Assign, measured-Update}
+use Rattle.osl_welltyped.proofs.StatementNodes.{measured-Block, measured-Expr, measured-Return, measured-If, measured-If-else, measured-While, measured-DoWhile, measured-For}
 use Rattle.osl_gencode.specs.Depths.{call_depth, expr_depth, stmt_depth, body_depth}
 
 -- ---- greatest numbers
@@ -191,6 +194,81 @@ module _ (scale : Scale) where
         deeper 1 wa (weight_done scale x).calls ha (stmt_measured by_height x) (omega (arith, w, l3, l4)) (omega (arith, m, m1, m4, m5)),
         deeper 1 wb (weight_done scale x).calls hb (stmt_measured by_height x) (omega (arith, w, l5)) (omega (arith, m, m2, m4, m5)),
       )
+
+  -- ---- loops that have three parts
+
+  pub depth_for : (x : TypedForStart) (c step : Option TypedExpr) (a : TypedStmt) → (1 + (call_depth * (start_weight scale x).calls + start_measured by_height x) ≤ stmt_depth scale (s.For x c step a)) × (1 + (call_depth * (maybe_weight scale c).calls + maybe_measured by_height c) ≤ stmt_depth scale (s.For x c step a)) × (1 + (call_depth * (maybe_weight scale step).calls + maybe_measured by_height step) ≤ stmt_depth scale (s.For x c step a)) × (1 + stmt_depth scale a ≤ stmt_depth scale (s.For x c step a))
+  depth_for x c step a =
+      let y = s.For x c step a in
+      let w = ap (λ v. v.calls) (done-For scale x c step a) in let m = measured-For by_height x c step a in
+      let wx = (start_weight scale x).calls in let wc = (maybe_weight scale c).calls in let ws = (maybe_weight scale step).calls in let wa = (weight_done scale a).calls in
+      let hx = start_measured by_height x in let hc = maybe_measured by_height c in let hs = maybe_measured by_height step in let ha = stmt_measured by_height a in
+      let l1 = right 0 wx in let l2 = left (max 0 wx) wc in let l3 = right (max 0 wx) wc in let l4 = left (max (max 0 wx) wc) ws in let l5 = right (max (max 0 wx) wc) ws in
+      let l6 = left (max (max (max 0 wx) wc) ws) wa in let l7 = right (max (max (max 0 wx) wc) ws) wa in
+      let m1 = left hx hc in let m2 = right hx hc in let m3 = left hs ha in let m4 = right hs ha in
+      let m5 = left (max hx hc) (max hs ha) in let m6 = right (max hx hc) (max hs ha) in let m7 = right 1 (max (max hx hc) (max hs ha)) in (
+        deeper 1 wx (weight_done scale y).calls hx (stmt_measured by_height y) (omega (arith, w, l1, l2, l4, l6)) (omega (arith, m, m1, m5, m7)),
+        deeper 1 wc (weight_done scale y).calls hc (stmt_measured by_height y) (omega (arith, w, l3, l4, l6)) (omega (arith, m, m2, m5, m7)),
+        deeper 1 ws (weight_done scale y).calls hs (stmt_measured by_height y) (omega (arith, w, l5, l6)) (omega (arith, m, m3, m6, m7)),
+        deeper 1 wa (weight_done scale y).calls ha (stmt_measured by_height y) (omega (arith, w, l7)) (omega (arith, m, m4, m6, m7)),
+      )
+
+  -- ---- parts of values, and assignments
+
+  pub depth_part : (kind : Kind) (a : TypedExpr) (part : Part) (xs : List TypedExpr) → expr_depth scale a ≤ expr_depth scale (e.PartOf kind a part xs)
+  depth_part kind a part xs =
+      let y = e.PartOf kind a part xs in
+      let c = ap (λ w. w.calls) (weight-PartOf scale kind a part xs) in let m = measured-PartOf by_height kind a part xs in
+      let o = right 1 (max (measured by_height a) (greatest_of (map (measured by_height) xs))) in let l = left (measured by_height a) (greatest_of (map (measured by_height) xs)) in
+      level (weight scale a).calls (weight scale y).calls (measured by_height a) (measured by_height y) (omega (arith, c)) (omega (arith, m, o, l))
+
+  pub depth_part_index : (kind : Kind) (a : TypedExpr) (part : Part) (xs : List TypedExpr) (k : ℕ) (x : TypedExpr) → slice_get xs k ≡ Some x → expr_depth scale x ≤ expr_depth scale (e.PartOf kind a part xs)
+  depth_part_index kind a part xs k x at =
+      let y = e.PartOf kind a part xs in
+      let c = ap (λ w. w.calls) (weight-PartOf scale kind a part xs) in let m = measured-PartOf by_height kind a part xs in
+      let o = right 1 (max (measured by_height a) (greatest_of (map (measured by_height) xs))) in let r = right (measured by_height a) (greatest_of (map (measured by_height) xs)) in
+      let lc = least_calls (weight scale) xs k x at in let lm = least_all (measured by_height) xs k x at in
+      level (weight scale x).calls (weight scale y).calls (measured by_height x) (measured by_height y) (omega (arith, c, lc)) (omega (arith, m, o, r, lm))
+
+  -- an index of a variable
+  least_node : (xs : List TypedExpr) (k : ℕ) (x : TypedExpr) → slice_get xs k ≡ Some x → measured by_height x ≤ max 1 (greatest_of (map by_height.node (map (measured by_height) xs)))
+  least_node [] k x at = absurd (cc at)
+  least_node (y ∷ xs) zero x at =
+      let z : Some y ≡ Some x = at in let q : y ≡ x = cc z in let h = ap (measured by_height) q in omega (arith, h)
+  least_node (y ∷ xs) (suc k) x at = let h = least_node xs k x at in omega (arith, h)
+
+  pub depth_index : (root : Root) (part : Part) (xs : List TypedExpr) (k : ℕ) (x : TypedExpr) → slice_get xs k ≡ Some x → expr_depth scale x ≤ expr_depth scale (e.Variable root part xs)
+  depth_index root part xs k x at =
+      let y = e.Variable root part xs in
+      let c = ap (λ w. w.calls) (weight-Variable scale root part xs) in let m = measured-Variable by_height root part xs in
+      let lc = least_calls (weight scale) xs k x at in let lm = least_node xs k x at in
+      level (weight scale x).calls (weight scale y).calls (measured by_height x) (measured by_height y) (omega (arith, c, lc)) (omega (arith, m, lm))
+
+  pub depth_assigned : (root : Root) (part : Part) (xs : List TypedExpr) (a : TypedExpr) → expr_depth scale a ≤ expr_depth scale (e.Assign root part xs a)
+  depth_assigned root part xs a =
+      let y = e.Assign root part xs a in
+      let c = ap (λ w. w.calls) (weight-Assign scale root part xs a) in let m = measured-Assign by_height root part xs a in
+      level (weight scale a).calls (weight scale y).calls (measured by_height a) (measured by_height y) (omega (arith, c)) (omega (arith, m))
+
+  pub depth_assign_index : (root : Root) (part : Part) (xs : List TypedExpr) (a : TypedExpr) (k : ℕ) (x : TypedExpr) → slice_get xs k ≡ Some x → expr_depth scale x ≤ expr_depth scale (e.Assign root part xs a)
+  depth_assign_index root part xs a k x at =
+      let y = e.Assign root part xs a in
+      let c = ap (λ w. w.calls) (weight-Assign scale root part xs a) in let m = measured-Assign by_height root part xs a in
+      let lc = least_calls (weight scale) xs k x at in let lm = least_node xs k x at in
+      level (weight scale x).calls (weight scale y).calls (measured by_height x) (measured by_height y) (omega (arith, c, lc)) (omega (arith, m, lm))
+
+  pub depth_updated : (op : OpName) (ty : Ty) (root : Root) (part : Part) (xs : List TypedExpr) (a : TypedExpr) → expr_depth scale a ≤ expr_depth scale (e.Update op ty root part xs a)
+  depth_updated op ty root part xs a =
+      let y = e.Update op ty root part xs a in
+      let c = ap (λ w. w.calls) (weight-Update scale op ty root part xs a) in let m = measured-Update by_height op ty root part xs a in
+      level (weight scale a).calls (weight scale y).calls (measured by_height a) (measured by_height y) (omega (arith, c)) (omega (arith, m))
+
+  pub depth_update_index : (op : OpName) (ty : Ty) (root : Root) (part : Part) (xs : List TypedExpr) (a : TypedExpr) (k : ℕ) (x : TypedExpr) → slice_get xs k ≡ Some x → expr_depth scale x ≤ expr_depth scale (e.Update op ty root part xs a)
+  depth_update_index op ty root part xs a k x at =
+      let y = e.Update op ty root part xs a in
+      let c = ap (λ w. w.calls) (weight-Update scale op ty root part xs a) in let m = measured-Update by_height op ty root part xs a in
+      let lc = least_calls (weight scale) xs k x at in let lm = least_node xs k x at in
+      level (weight scale x).calls (weight scale y).calls (measured by_height x) (measured by_height y) (omega (arith, c, lc)) (omega (arith, m, lm))
 
 -- ---- the whole
 
