@@ -1,4 +1,5 @@
 pub mod Cut
 pub mod Numbers
 pub mod Pairs
+pub mod Rounds
 mod Worked

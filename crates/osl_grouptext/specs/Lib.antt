@@ -3,3 +3,4 @@ pub mod Statements
 pub mod Canon
 pub mod Reading
 pub mod Seen
+pub mod Fits
