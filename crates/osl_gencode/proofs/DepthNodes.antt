@@ -8,6 +8,9 @@ use Rattle.osl_typed.specs.declared.expr.Argument.{Argument}
 use Rattle.osl_typed.specs.declared.expr.Argument.TheVariants as arguments
 use Rattle.osl_typed.specs.declared.expr.Part.{Part}
 use Rattle.osl_typed.specs.declared.expr.Root.{Root}
+use Rattle.osl_typed.specs.declared.stmt.Declared.{Declared}
+use Rattle.osl_typed.specs.declared.stmt.TypedInit.{TypedInit}
+use Rattle.osl_typed.specs.declared.stmt.TypedInit.TheVariants as init
 use Rattle.osl_typed.specs.declared.expr.TypedExpr.{TypedExpr}
 use Rattle.osl_typed.specs.declared.expr.TypedExpr.TheVariants as e
 use Rattle.osl_typed.specs.declared.shader.TypedFunction.{TypedFunction}
@@ -15,11 +18,11 @@ use Rattle.osl_typed.specs.declared.sizes.Weight.{Weight}
 use Rattle.osl_typed.specs.declared.stmt.TypedForStart.{TypedForStart}
 use Rattle.osl_typed.specs.declared.stmt.TypedStmt.{TypedStmt}
 use Rattle.osl_typed.specs.declared.stmt.TypedStmt.TheVariants as s
-use Rattle.osl_typed.specs.Sizes.{Scale, all_of, start_weight, maybe_weight, weight, weight_done, weight_passed, formal_weight, body_weight, call_weight}
-use Rattle.osl_typed.proofs.WeightLaws.{weight-Paren, weight-Promote, weight-Apply, weight-And, weight-Or, weight-Choose, weight-Call, weight-In, done-Block, done-Expr, done-Return, done-If, done-If-Else, done-While, done-DoWhile, done-For, weight-Variable, weight-PartOf, weight-Assign, weight-Update}
-use Rattle.osl_welltyped.specs.Measures.{by_height, greatest_of, start_measured, maybe_measured, measured, argument_measured, stmt_measured, body_measured}
-use Rattle.osl_welltyped.proofs.MeasureLaws.{measured-Paren, measured-Promote, measured-Apply, measured-And, measured-Or, measured-Choose, measured-Call, measured-In, measured-Variable, measured-PartOf, measured-Assign, measured-Update}
-use Rattle.osl_welltyped.proofs.StatementNodes.{measured-Block, measured-Expr, measured-Return, measured-If, measured-If-else, measured-While, measured-DoWhile, measured-For}
+use Rattle.osl_typed.specs.Sizes.{Scale, all_of, start_weight, maybe_weight, weight, weight_done, weight_passed, formal_weight, body_weight, call_weight, init_weight, maybe_init, declared_weight}
+use Rattle.osl_typed.proofs.WeightLaws.{weight-Paren, weight-Promote, weight-Apply, weight-And, weight-Or, weight-Choose, weight-Call, weight-In, done-Block, done-Expr, done-Return, done-If, done-If-Else, done-While, done-DoWhile, done-For, weight-Variable, weight-PartOf, weight-Assign, weight-Update, weight-Out, done-Declare}
+use Rattle.osl_welltyped.specs.Measures.{by_height, greatest_of, start_measured, maybe_measured, measured, argument_measured, stmt_measured, body_measured, init_measured, begun_measured}
+use Rattle.osl_welltyped.proofs.MeasureLaws.{measured-Paren, measured-Promote, measured-Apply, measured-And, measured-Or, measured-Choose, measured-Call, measured-In, measured-Variable, measured-PartOf, measured-Assign, measured-Update, measured-Out}
+use Rattle.osl_welltyped.proofs.StatementNodes.{measured-Block, measured-Expr, measured-Return, measured-If, measured-If-else, measured-While, measured-DoWhile, measured-For, measured-Declare}
 use Rattle.osl_gencode.specs.Depths.{call_depth, expr_depth, stmt_depth, body_depth}
 
 -- ---- greatest numbers
@@ -269,6 +272,33 @@ module _ (scale : Scale) where
       let c = ap (λ w. w.calls) (weight-Update scale op ty root part xs a) in let m = measured-Update by_height op ty root part xs a in
       let lc = least_calls (weight scale) xs k x at in let lm = least_node xs k x at in
       level (weight scale x).calls (weight scale y).calls (measured by_height x) (measured by_height y) (omega (arith, c, lc)) (omega (arith, m, lm))
+
+  -- ---- declarations, and output arguments
+
+  -- what a declared variable begins with
+  pub depth_declared : (ds : List Declared) (k : ℕ) (d : Declared) (x : TypedInit) → slice_get ds k ≡ Some d → d.init ≡ Some x → call_depth * (init_weight scale d.kind x).calls + init_measured by_height x ≤ stmt_depth scale (s.Declare ds)
+  depth_declared ds k d x at is =
+      let y = s.Declare ds in
+      let c = ap (λ w. w.calls) (done-Declare scale ds) in let m = measured-Declare by_height ds in
+      let lc = least_calls (declared_weight scale) ds k d at in let lm = least_all (λ (z : Declared). begun_measured by_height z.init) ds k d at in
+      let ic = ap (λ o. (maybe_init scale d.kind o).calls) is in let im = ap (begun_measured by_height) is in
+      level (init_weight scale d.kind x).calls (weight_done scale y).calls (init_measured by_height x) (stmt_measured by_height y) (omega (arith, c, lc, ic)) (omega (arith, m, lm, im))
+
+  -- an expression as an initialiser, and an item of a list
+  pub depth_item : (kind : Kind) (items : List TypedExpr) (k : ℕ) (x : TypedExpr) → slice_get items k ≡ Some x → expr_depth scale x ≤ call_depth * (init_weight scale kind (init.List items)).calls + init_measured by_height (init.List items)
+  depth_item kind items k x at =
+      let lc = least_calls (weight scale) items k x at in let lm = least_all (measured by_height) items k x at in
+      level (weight scale x).calls (init_weight scale kind (init.List items)).calls (measured by_height x) (init_measured by_height (init.List items)) (omega (arith, lc)) (omega (arith, lm))
+
+  -- an index of an output argument
+  pub depth_output_index : (f : ℕ) (kind : Kind) (args : List Argument) (i : ℕ) (root : Root) (part : Part) (xs : List TypedExpr) (k : ℕ) (x : TypedExpr) → slice_get args i ≡ Some (arguments.Out root part xs) → slice_get xs k ≡ Some x → expr_depth scale x ≤ expr_depth scale (e.Call f kind args)
+  depth_output_index f kind args i root part xs k x here at =
+      let y = e.Call f kind args in
+      let c = ap (λ w. w.calls) (weight-Call scale f kind args) in let m = measured-Call by_height f kind args in
+      let lc = least_calls (weight_passed scale) args i (arguments.Out root part xs) here in let lm = least_all (argument_measured by_height) args i (arguments.Out root part xs) here in
+      let oc = ap (λ w. w.calls) (weight-Out scale root part xs) in let om = measured-Out by_height root part xs in
+      let ic = least_calls (weight scale) xs k x at in let im = least_node xs k x at in
+      level (weight scale x).calls (weight scale y).calls (measured by_height x) (measured by_height y) (omega (arith, c, lc, oc, ic)) (omega (arith, m, lm, om, im))
 
 -- ---- the whole
 

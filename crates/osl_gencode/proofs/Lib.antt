@@ -68,3 +68,4 @@ pub mod KindedOps
 pub mod SymbolUses
 pub mod DepthNodes
 pub mod ShaderCode
+pub mod StatedDefaults
