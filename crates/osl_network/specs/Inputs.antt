@@ -34,9 +34,12 @@ abbrev pub given : List Var → List LayerEnd → Port → (interactive : Bool) 
 given vars ends port interactive value None = instance (held vars port interactive value)
 given vars ends port interactive value (Some place) = From (option_map (converted port.ty) (output_at ends place))
 
+-- what the parameter of a number is given, if it is there
+abbrev pub given_at : List Var → List LayerEnd → List (Option Plain) → Layer → ℕ → Option Port → Input
+given_at vars ends values layer k None = Default
+given_at vars ends values layer k (Some port) =
+    given vars ends port (unwrap_or (slice_get layer.interactive k) false) (unwrap_or (slice_get values k) None) (unwrap_or (slice_get layer.sources k) None)
+
 -- the inputs of a layer under instance values, at a point's variables, where the layers before it ended so
 abbrev pub inputs_of : List Var → List LayerEnd → List (Option Plain) → Layer → Inputs
-inputs_of vars ends values layer k = elim (slice_get layer.ports k) [
-  | None ↦ Default
-  | Some port ↦ given vars ends port (unwrap_or (slice_get layer.interactive k) false) (unwrap_or (slice_get values k) None) (unwrap_or (slice_get layer.sources k) None)
-]
+inputs_of vars ends values layer k = given_at vars ends values layer k (slice_get layer.ports k)

@@ -2,6 +2,7 @@ pub mod Building
 pub mod Edits
 pub mod Groups
 pub mod Inputs
+pub mod Laws
 pub mod Meaning
 pub mod Needed
 pub mod Network
