@@ -1,5 +1,5 @@
 -- What the code generator is inside: the body, its rules and what its nodes weigh.
-use Rattle.std.specs.Prelude.{ℕ, ◌≡◌, ◌≤◌, ◌+◌, ◌*◌, Bool, false, not, ◌&&◌, if◌then◌else◌, List, length, take, Some, slice_get}
+use Rattle.std.specs.Prelude.{ℕ, ◌≡◌, ◌≤◌, ◌+◌, Bool, false, not, ◌&&◌, if◌then◌else◌, List, length, take, Some, slice_get}
 use Rattle.std.specs.List.{flat_map}
 use Rattle.osl_value.specs.declared.types.Ty.{Ty}
 use Rattle.osl_value.specs.AnyValue.{is_one_triple}
@@ -17,17 +17,18 @@ use Rattle.osl_typed.specs.declared.sizes.Weight.{Weight}
 use Rattle.osl_typed.specs.Expressions.{Calls}
 use Rattle.osl_typed.specs.Frames.{leaves_of}
 use Rattle.osl_typed.specs.Scopes.{is_assignable_global}
-use Rattle.osl_typed.specs.Sizes.{Scale, calls_below, kind_slots, weight, most_size, most_slots}
+use Rattle.osl_typed.specs.Sizes.{Scale, calls_below, kind_slots, most_size, most_slots}
 use Rattle.osl_typed.specs.Statements.{below}
 use Rattle.osl_welltyped.specs.Kinded.{Rules}
 use Rattle.osl_welltyped.specs.KindOf.{kind_of}
-use Rattle.osl_welltyped.specs.Measures.{by_height, measured, body_measured}
+use Rattle.osl_welltyped.specs.Measures.{by_height, body_measured}
 use Rattle.osl_welltyped.specs.WellTyped.{is_output}
 use Rattle.oso_code.specs.declared.op.Op.{Op}
 use Rattle.oso_code.specs.declared.symbol.Class.TheVariants as C
 use Rattle.oso_code.specs.declared.symbol.Symbol.{Symbol}
 use Rattle.oso_code.specs.Valid.{slots_of}
 use Rattle.osl_gencode.specs.Bodies.{Body, Room}
+use Rattle.osl_gencode.specs.Depths.{call_depth}
 use Rattle.osl_genparts.specs.declared.insides.Insides.{Insides}
 
 -- ---- the body
@@ -90,16 +91,6 @@ becomes_triple _ = false
 -- the slots that an expression leaves of its weight: those of a copy, and one more
 abbrev pub spare_slots : Insides → TypedExpr → ℕ
 spare_slots i x = if becomes_triple (out-TypedExpr x) then 0 else 1 + kind_slots i.structures.now (kind_of x)
-
--- ---- depth
-
--- the ranges that a called function's body may lie in, its call's own included
-abbrev pub call_depth : ℕ
-call_depth = 257
-
--- how deep the ranges of an expression lie in each other at most
-abbrev pub depth_in : Insides → TypedExpr → ℕ
-depth_in i x = call_depth * (weight (scale_in i) x).calls + measured by_height x
 
 -- ---- where code may be made
 
