@@ -1,3 +1,4 @@
+pub mod Again
 pub mod Cut
 pub mod Numbers
 pub mod Pairs

@@ -4,3 +4,4 @@ pub mod Canon
 pub mod Reading
 pub mod Seen
 pub mod Fits
+pub mod Whole
