@@ -1,9 +1,16 @@
 -- The rows of a view hold just what is live.
-use Rattle.std.proofs.Common.{◌≡◌, ℕ, ◌<◌, Bool, true, List, [], length, get_or, sym, ◌∙◌, ap}
+use Rattle.std.proofs.Common.{◌≡◌, ℕ, ◌+◌, ◌<◌, Bool, true, false, None, Some, List, [], length, get_or, sym, ◌∙◌, ap}
+use Rattle.osl_value.specs.declared.op_name.OpName.{OpName}
+use Rattle.osl_value.specs.declared.types.Ty.{Ty}
+use Rattle.std.specs.List.{list_any}
+use Rattle.std.proofs.lemmas.Bool.{or_parts}
+use Rattle.std.specs.Prelude.{slice_get}
 use Rattle.oso_code.specs.Ranges.{steps_of}
-use Rattle.oso_code.specs.Steps.{Step}
+use Rattle.oso_code.specs.Run.{Sources}
+use Rattle.oso_code.specs.Steps.{Step, Compute}
 use Rattle.oso_code.specs.declared.op.Section.{Section}
-use Rattle.osl_rewrites.specs.Flow.{nexts, Live, Reads, Passes, Asked, Settled}
+use Rattle.osl_rewrites.specs.Flow.{first, nexts, nexts_of, Live, Reads, Passes, Asked, Settled}
+use Rattle.osl_rewrites.specs.Drop.{AllSure, Dead}
 use Rattle.osl_rewrites.specs.declared.point.Around.{Around}
 use Rattle.osl_rewrites.specs.declared.point.Spot.{Spot}
 use Rattle.osl_rewrites.specs.declared.point.Spot.TheVariants.{At}
@@ -32,3 +39,11 @@ live_exact view i row flow lt is =
             λ h. same ∙ one_any live.row spots k h.0 h.1 (live_in_row steps sections flow.around (bit view.asked) live.row live.settled k h.0 h.2),
           );
     }
+
+-- an operation whose symbol's bit is false after it is dead by the rows, where it reads nothing from a layer that gave nothing
+pub dead_by_row : (view : View) (from : Sources) (i : ℕ) (name : OpName) (ty : Ty) (target : ℕ) (sources : List ℕ) (flow : IsFlow view) → i < length view.code.ops
+    → slice_get (steps_of view.code) i ≡ Some (Compute name ty target sources) → AllSure from sources → bit (get_or view.live i []) target ≡ false → Dead from (steps_of view.code) flow.around flow.are_live.row i
+dead_by_row view from i name ty target sources flow lt is sure off =
+    let row = flow.are_live.row in
+    let here = ap (λ o. list_any (λ q. row q target) (elim o [ None ↦ [] | Some step ↦ nexts_of i (flow.around i) step ])) is in
+    record { name = name; ty = ty; target = target; sources = sources; here = is; sure = sure; dead = (or_parts (row (first (i + 1) (flow.around i)) target) false (sym here ∙ sym (flow.are_live.after i target lt) ∙ off)).0 }
