@@ -1,3 +1,4 @@
 pub mod OwnSymbols
 pub mod FoundConstants
 pub mod CalmLaws
+pub mod ReadyLater
