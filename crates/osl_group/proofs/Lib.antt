@@ -1,1 +1,4 @@
+mod Named
+mod Parameters
+mod Putting
 mod Shares
