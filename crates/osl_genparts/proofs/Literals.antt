@@ -1,5 +1,5 @@
 -- A literal is its constant.
-use Rattle.std.proofs.Common.{◌≡◌, ℕ, ◌+◌, ◌<◌, ◌≤◌, List, [], ◌∷◌, length, Bool, true, false, refl, sym, ap, ◌∙◌, subst, arith}
+use Rattle.std.proofs.Common.{◌≡◌, ℕ, ◌+◌, ◌≤◌, List, [], ◌∷◌, length, Bool, true, false, sym, ap, subst, arith}
 use Rattle.std.specs.Prelude.{IsTrue, ℤ, if◌then◌else◌}
 use Rattle.osl_value.specs.declared.types.Base.TheVariants.{Int, Float, Str}
 use Rattle.osl_value.specs.declared.types.Ty.{Ty}
